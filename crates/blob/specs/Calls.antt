@@ -49,10 +49,10 @@ pub record Power-lost (v w : BlobValue) : Type 0 where
 -- a read at o into a buffer that held `before` and holds `after`; a read that takes the power down leaves anything there
 abbrev pub Read : BlobValue → ℕ → List ℕ → List ℕ → BlobValue → Result (Unit {0}) Fault → Type 0
 Read v o before after w (Ok u) =
-  Read-fits v o (length before) × (v .power ≡ true) × (w ≡ v) × (after ≡ stretch (v .shown) o (length before))
+    Read-fits v o (length before) × (v .power ≡ true) × (w ≡ v) × (after ≡ stretch (v .shown) o (length before))
 Read v o before after w (Err Refused) = (Read-fits v o (length before) → ⊥) × (w ≡ v) × (after ≡ before)
 Read v o before after w (Err Failed) =
-  Read-fits v o (length before) × Fails v w (Power-lost v w) × (v .power ≡ false → after ≡ before)
+    Read-fits v o (length before) × Fails v w (Power-lost v w) × (v .power ≡ false → after ≡ before)
 
 -- a write at o leaves the byte at the place k, or writes the one that was there
 abbrev pub Same-byte : BlobValue → ℕ → List ℕ → ℕ → Type 0
