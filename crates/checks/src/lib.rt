@@ -3,6 +3,13 @@ ghost use mathlib.Core.Path.{_≡_};
 ghost use mathlib.Core.List.{List};
 ghost use Prim.Native.Nat.{ℕ};
 ghost use Rattle.checks.specs.Check.{Fits-four, Tells-one};
+pub use crc::Crc32c;
+pub use crc::Crc32cCheck;
+pub use older::OlderSum;
+pub use older::OlderSumCheck;
+
+mod crc;
+mod older;
 
 // Each kind of check says by `sum` which number a string has.
 pub trait Check {
