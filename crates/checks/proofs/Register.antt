@@ -51,7 +51,7 @@ leaving-linear s t d e = ap (λ n. n % 2) (regroup s t d e) ∙ xor-mod (bitXor 
 bit-linear : (s t d e : ℕ) → after-bit (bitXor s t) (bitXor d e) ≡ bitXor (after-bit s d) (after-bit t e)
 bit-linear s t d e =
     let a : added (leaving (bitXor s t) (bitXor d e)) ≡ bitXor (added (leaving s d)) (added (leaving t e)) =
-      ap added (leaving-linear s t d e) ∙ added-xor (leaving s d) (leaving t e) (omega arith) (omega arith) in
+    ap added (leaving-linear s t d e) ∙ added-xor (leaving s d) (leaving t e) (omega arith) (omega arith) in
     bit-is (bitXor s t) (bitXor d e)
     ∙ ap (bitXor (bitXor s t / 2)) a
     ∙ ap (λ n. bitXor n (bitXor (added (leaving s d)) (added (leaving t e)))) (xor-shr s t 1)
@@ -153,7 +153,7 @@ byte-first s b h =
 byte-tells : (s a b : ℕ) → s < 2 ^ 32 → a < 2 ^ 8 → b < 2 ^ 8 → after-bits 8 s a ≡ after-bits 8 s b → a ≡ b
 byte-tells s a b h j k q =
     let r = bits-inj 8 (bitXor s a) (bitXor s b) 0 (xor-lt 32 s a h (omega arith)) (xor-lt 32 s b h (omega arith))
-      (byte-first s a j ∙ q ∙ sym (byte-first s b k)) in
+    (byte-first s a j ∙ q ∙ sym (byte-first s b k)) in
     xor-inj a b s (xor-comm a s ∙ r ∙ xor-comm s b)
 
 bytes-inj : (x : List ℕ) (s t : ℕ) → s < 2 ^ 32 → t < 2 ^ 32 → after-bytes s x ≡ after-bytes t x → s ≡ t
@@ -162,7 +162,7 @@ bytes-inj (b ∷ x) s t h k q =
     bits-inj 8 s t b h k (bytes-inj x (after-bits 8 s b) (after-bits 8 t b) (bits-lt 8 s b h) (bits-lt 8 t b k) q)
 
 one-place : (x y : List ℕ) (s p : ℕ) → s < 2 ^ 32 → getD x p 0 < 256 → getD y p 0 < 256 → length x ≡ length y → p < length x
-  → ((k : ℕ) → (k ≡ p → ⊥) → getD x k 0 ≡ getD y k 0) → after-bytes s x ≡ after-bytes s y → getD x p 0 ≡ getD y p 0
+    → ((k : ℕ) → (k ≡ p → ⊥) → getD x k 0 ≡ getD y k 0) → after-bytes s x ≡ after-bytes s y → getD x p 0 ≡ getD y p 0
 one-place [] y s p h bx by e i same q = absurd (not-suc-le-zero i)
 one-place (a ∷ x) [] s p h bx by e i same q = absurd (omega (arith, e))
 one-place (a ∷ x) (b ∷ y) s zero h bx by e i same q =
