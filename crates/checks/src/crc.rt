@@ -1,10 +1,11 @@
 // CRC-32C of RFC 3720, a byte at a time by a table.
 ghost use mathlib.Core.Path.{_≡_};
 ghost use Prim.Native.Nat.{_/_, _^_};
-ghost use Rattle.checks.specs.Crc.{after-bits, crc32c};
+ghost use lib.Bits.{bitAnd, bitXor};
+ghost use Rattle.checks.specs.Crc.{after-bits, crc32c, ones};
 use crate::Check;
 
-// The entry at `i` is what the eight bits of `i` make of a register that holds 0.
+// The entry at `i` is what the eight bits of `i` make of a register that holds 0: `entry` proves it.
 const TABLE: [u32; 256] = [
     0x0000_0000,
     0xf26b_8303,
@@ -270,6 +271,13 @@ fn entry(i: u8) -> u32
     TABLE[i as usize]
 }
 
+// The eight bits that leave the register as the bits of `byte` come.
+fn low(register: u32, byte: u8) -> u8
+    ensures { λ r. ⌜ r ≡ bitAnd (bitXor register byte) 0xff ⌝ }
+{
+    ((register ^ byte as u32) & 0xff) as u8
+}
+
 // The register with its eight lowest bits shifted out.
 fn shifted(register: u32) -> u32
     ensures { λ r. ⌜ r ≡ register / 2 ^ 8 ⌝ }
@@ -281,7 +289,13 @@ fn shifted(register: u32) -> u32
 fn step(register: u32, byte: u8) -> u32
     ensures { λ r. ⌜ r ≡ after-bits 8 register byte ⌝ }
 {
-    entry(((register ^ byte as u32) & 0xff) as u8) ^ shifted(register)
+    entry(low(register, byte)) ^ shifted(register)
+}
+
+fn complemented(register: u32) -> u32
+    ensures { λ r. ⌜ r ≡ bitXor register ones ⌝ }
+{
+    register ^ 0xffff_ffff
 }
 
 #[derive(Clone, Copy, Debug)]
@@ -295,6 +309,6 @@ pub impl Check for Crc32c as Crc32cCheck {
         for b in bytes {
             register = step(register, *b);
         }
-        register ^ 0xffff_ffff
+        complemented(register)
     }
 }

@@ -8,14 +8,14 @@ use crate::Check;
 fn place(i: usize) -> u32
     ensures { λ r. ⌜ r ≡ (i + 1) % 2 ^ 32 ⌝ }
 {
-    ((i & 0xffff_ffff) as u32).wrapping_add(1)
+    ((i % 0x1_0000_0000) as u32).wrapping_add(1)
 }
 
-// What the byte `b` at the place `i` adds to the sum.
-fn weight(i: usize, b: u8) -> u32
-    ensures { λ r. ⌜ r ≡ (i + 1) * (b + 1) % 2 ^ 32 ⌝ }
+// What the byte `b` at the place with the number `n` adds to the sum, modulo 4,294,967,296.
+fn weight(n: u32, b: u8) -> u32
+    ensures { λ r. ⌜ r ≡ n * (b + 1) % 2 ^ 32 ⌝ }
 {
-    place(i).wrapping_mul(b as u32 + 1)
+    n.wrapping_mul(b as u32 + 1)
 }
 
 #[derive(Clone, Copy, Debug)]
@@ -27,7 +27,7 @@ pub impl Check for OlderSum as OlderSumCheck {
     fn checksum(&self, bytes: &[u8]) -> u32 {
         let mut total: u32 = 0;
         for (i, b) in bytes.iter().enumerate() {
-            total = total.wrapping_add(weight(i, *b));
+            total = total.wrapping_add(weight(place(i), *b));
         }
         total
     }

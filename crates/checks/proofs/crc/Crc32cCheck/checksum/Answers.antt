@@ -14,4 +14,4 @@ loop-b-again c =
 pub returns : need.returns
 returns c =
     let e = at-drop-all (after-bytes (c .loop-b .register)) (c .args .bytes .now) (c .loop-b .b-index) (c .loop-b-test .left) in
-    ap (λ s. bitXor s ones) (sym e ∙ c .loop-b .inv)
+    c .complemented .ensures ∙ ap (λ s. bitXor s ones) (sym e ∙ c .loop-b .inv)
