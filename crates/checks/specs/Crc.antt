@@ -1,4 +1,4 @@
--- CRC-32C of RFC 3720, bit by bit.
+-- CRC-32C of RFC 3720, bit by bit. Bits are added without carry, by bitXor.
 use mathlib.Core.Path.{_≡_}
 use mathlib.Core.Bool.{cond}
 use mathlib.Core.List.{List, [], _∷_}

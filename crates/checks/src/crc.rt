@@ -5,7 +5,7 @@ ghost use lib.Bits.{bitAnd, bitXor};
 ghost use Rattle.checks.specs.Crc.{after-bits, crc32c, ones};
 use crate::Check;
 
-// The entry at `i` is what the eight bits of `i` make of a register that holds 0: `entry` proves it.
+// The entry at `i` is what the eight bits of `i` make of a register that holds 0, as `entry` promises.
 const TABLE: [u32; 256] = [
     0x0000_0000,
     0xf26b_8303,
@@ -271,7 +271,7 @@ fn entry(i: u8) -> u32
     TABLE[i as usize]
 }
 
-// The eight bits that leave the register as the bits of `byte` come.
+// The place in the table: the register's eight lowest bits, with those of `byte` added.
 fn low(register: u32, byte: u8) -> u8
     ensures { λ r. ⌜ r ≡ bitAnd (bitXor register byte) 0xff ⌝ }
 {
@@ -292,6 +292,7 @@ fn step(register: u32, byte: u8) -> u32
     entry(low(register, byte)) ^ shifted(register)
 }
 
+// Each bit of the register the other way.
 fn complemented(register: u32) -> u32
     ensures { λ r. ⌜ r ≡ bitXor register ones ⌝ }
 {
