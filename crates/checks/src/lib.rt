@@ -3,6 +3,16 @@ ghost use mathlib.Core.Path.{_≡_};
 ghost use mathlib.Core.List.{List};
 ghost use Prim.Native.Nat.{ℕ};
 ghost use Rattle.checks.specs.Check.{Fits-four, Tells-one};
+pub use crc::Crc32c;
+pub use crc::Crc32cCheck;
+pub use known::KnownNumbers;
+pub use known::known_numbers;
+pub use older::OlderSum;
+pub use older::OlderSumCheck;
+
+mod crc;
+mod known;
+mod older;
 
 // Each kind of check says by `sum` which number a string has.
 pub trait Check {

@@ -1,0 +1,3 @@
+mod Register
+mod Table
+mod Weights
