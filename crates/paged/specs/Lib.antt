@@ -1,3 +1,4 @@
 pub mod Refusals
 pub mod Marks
 pub mod PageRead
+pub mod Rows
