@@ -1,3 +1,4 @@
 mod Fronts
 mod Lengths
+mod Picking
 mod Settled

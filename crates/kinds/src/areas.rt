@@ -1,5 +1,6 @@
 // A string of bytes that stands in memory taken once, so that it can grow up to a ceiling and never fail.
 mod calls;
+mod picks;
 
 ghost use Prim.Native.Nat.{ℕ, _^_, _<_, _≤_};
 ghost use lib.ListN.{length, getD};
