@@ -1,4 +1,5 @@
 mod Fronts
-mod Lengths
+mod Later
 mod Picking
 mod Settled
+mod Strings

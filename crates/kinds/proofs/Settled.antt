@@ -8,7 +8,7 @@ use lib.ListN.{length}
 use Rattle.std.proofs.shelf.Lists.{places}
 use Rattle.std.proofs.shelf.Tests.{ltb-true, lt-ltb}
 use Rattle.blob.specs.Calls.{overwritten, resized, Write-done, Resize-done}
-use Rattle.kinds.proofs.Lengths.{length-overwritten, length-resized}
+use Rattle.kinds.proofs.Strings.{length-overwritten, length-resized}
 use Rattle.kinds.specs.Through.{settled-value}
 
 pub write-done : (s bs : List ℕ) (c o : ℕ) → o ≤ length s → o + length bs ≤ c

@@ -8,7 +8,7 @@ ghost use Rattle.std.specs.Of.Vec.{vec-items};
 
 // The string is the first `len` bytes of `area`, and its ceiling the number of them all.
 #[derive(Drop)]
-pub struct Area {
+pub(crate) struct Area {
     area: Vec<u8>,
     len: u64,
     ghost within: { len ≤ length (vec-items area) },

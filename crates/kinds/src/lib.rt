@@ -1,7 +1,10 @@
 // Two kinds of blob in memory: one that is always settled, and one whose bytes wait for a settle and whose power can be cut.
 mod areas;
+mod settle_later;
 mod write_through;
 
+pub use settle_later::SettleLater;
+pub use settle_later::SettleLaterBlob;
 pub use write_through::WriteThrough;
 pub use write_through::WriteThroughBlob;
 
@@ -14,3 +17,6 @@ pub enum MakeError {
     TooLong,
     NoMemory,
 }
+
+#[cfg(test)]
+mod tests;

@@ -34,7 +34,7 @@ fn clear(area: &mut [u8], from: usize, to: usize)
 
 impl Area {
     // An area with room for `ceiling` bytes that holds `bytes`.
-    pub fn with_bytes(heap: Global, ceiling: u64, bytes: &[u8]) -> Result<Area, MakeError>
+    pub(crate) fn with_bytes(heap: Global, ceiling: u64, bytes: &[u8]) -> Result<Area, MakeError>
         ensures { λ r. ⌜ Made ceiling (now (bytes .entry)) (λ a. (held a ≡ now (bytes .entry)) × (room a ≡ ceiling)) r ⌝ }
     {
         if ceiling > HIGHEST_CEILING {
@@ -52,35 +52,35 @@ impl Area {
     }
 
     // The length of the string.
-    pub fn len(&self) -> u64
+    pub(crate) fn len(&self) -> u64
         ensures { λ r. ⌜ r ≡ length (held (now (self .entry))) ⌝ }
     {
         self.len
     }
 
     // What the length never passes.
-    pub fn ceiling(&self) -> u64
+    pub(crate) fn ceiling(&self) -> u64
         ensures { λ r. ⌜ r ≡ room (now (self .entry)) ⌝ }
     {
         self.area.len() as u64
     }
 
     // Whether the string has `n` bytes from `at` on.
-    pub fn has(&self, at: u64, n: u64) -> bool
+    pub(crate) fn has(&self, at: u64, n: u64) -> bool
         ensures { λ r. ⌜ r ≡ leb (at + n) (length (held (now (self .entry)))) ⌝ }
     {
         at <= self.len && n <= self.len - at
     }
 
     // Whether `n` bytes can be written from `at` on.
-    pub fn takes(&self, at: u64, n: u64) -> bool
+    pub(crate) fn takes(&self, at: u64, n: u64) -> bool
         ensures { λ r. ⌜ r ≡ (leb at (length (held (now (self .entry)))) && leb (at + n) (room (now (self .entry)))) ⌝ }
     {
         at <= self.len && n <= self.ceiling() - at
     }
 
     // Fills `buf` with the bytes from `at` on.
-    pub fn read(&self, at: u64, buf: &mut [u8])
+    pub(crate) fn read(&self, at: u64, buf: &mut [u8])
         requires { ⌜ at + length (now buf) ≤ length (held (now self)) ⌝ }
         ensures { λ _. ⌜ now (buf .exit) ≡ stretch (held (now (self .entry))) at (length (now (buf .entry))) ⌝ }
     {
@@ -90,7 +90,7 @@ impl Area {
     }
 
     // Writes `bytes` over the string from `at` on, and lengthens it where they pass its end.
-    pub fn write(&mut self, at: u64, bytes: &[u8])
+    pub(crate) fn write(&mut self, at: u64, bytes: &[u8])
         requires { ⌜ at ≤ length (held (now self)) ⌝ ∗ ⌜ at + length (now bytes) ≤ room (now self) ⌝ }
         ensures held { λ _. ⌜ held (now (self .exit)) ≡ overwritten (held (now (self .entry))) at (now (bytes .entry)) ⌝ }
         ensures room { λ _. ⌜ room (now (self .exit)) ≡ room (now (self .entry)) ⌝ }
@@ -101,7 +101,7 @@ impl Area {
     }
 
     // Cuts the string to `len` bytes, or lengthens it with zeros.
-    pub fn resize(&mut self, len: u64)
+    pub(crate) fn resize(&mut self, len: u64)
         requires { ⌜ len ≤ room (now self) ⌝ }
         ensures held { λ _. ⌜ held (now (self .exit)) ≡ resized (held (now (self .entry))) len ⌝ }
         ensures room { λ _. ⌜ room (now (self .exit)) ≡ room (now (self .entry)) ⌝ }
@@ -112,7 +112,7 @@ impl Area {
     }
 
     // Takes over the string of an area with the same ceiling.
-    pub fn copy_from(&mut self, other: &Area)
+    pub(crate) fn copy_from(&mut self, other: &Area)
         requires { ⌜ room (now self) ≡ room (now other) ⌝ }
         ensures held { λ _. ⌜ held (now (self .exit)) ≡ held (now (other .entry)) ⌝ }
         ensures room { λ _. ⌜ room (now (self .exit)) ≡ room (now (self .entry)) ⌝ }

@@ -62,7 +62,7 @@ fn pick_bytes(working: &mut [u8], working_len: usize, settled: &[u8], pattern: &
 
 impl Area {
     // Takes the string that a restart leaves of this one and the settled one.
-    pub fn pick(&mut self, settled: &Area, pattern: &[u8])
+    pub(crate) fn pick(&mut self, settled: &Area, pattern: &[u8])
         requires { ⌜ room (now self) ≡ room (now settled) ⌝ }
         ensures picked { λ _. ⌜ Picked (now (pattern .entry)) (held (now (self .entry))) (held (now (settled .entry))) (held (now (self .exit))) ⌝ }
         ensures room { λ _. ⌜ room (now (self .exit)) ≡ room (now (self .entry)) ⌝ }
