@@ -1,15 +1,13 @@
 -- What a restart leaves, from the areas to the strings that are their fronts.
 use mathlib.Core.Path.{_≡_, _∙_}
-use mathlib.Core.Bool.{Bool, true, cond}
+use mathlib.Core.Bool.{true, cond}
 use mathlib.Core.Logic.{⊎-elim}
 use mathlib.Core.List.{List}
 use Prim.Native.Nat.{ℕ, _<_, _≤_, max}
 use native.Mathlib.Omega.{arith}
-use borrow.Author.Needs.{needs}
 use lib.ListN.{length, getD, take}
 use Rattle.std.proofs.shelf.Lists.{getD-take, length-take-le}
 use Rattle.std.proofs.shelf.Tests.{cases-lt, cases-bool, lt-ltb, le-leb}
-use Rattle.std.proofs.shelf.Ways.{tells}
 use Rattle.kinds.specs.Picks.{bit, picked-length, from-settled, Picked}
 
 pub picked-most : (p : List ℕ) (l m : ℕ) → picked-length p l m ≤ max l m

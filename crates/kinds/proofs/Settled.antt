@@ -1,11 +1,9 @@
 -- What the calls of a blob that is always settled keep, over its bytes alone.
-use mathlib.Core.Path.{_≡_, refl}
+use mathlib.Core.Path.{refl}
 use mathlib.Core.List.{List}
 use Prim.Native.Nat.{ℕ, _+_, _≤_}
 use native.Mathlib.Omega.{arith}
-use borrow.Author.Needs.{needs}
 use lib.ListN.{length}
-use Rattle.std.proofs.shelf.Lists.{places}
 use Rattle.std.proofs.shelf.Tests.{ltb-true, lt-ltb}
 use Rattle.blob.specs.Calls.{overwritten, resized, Write-done, Resize-done}
 use Rattle.kinds.proofs.Strings.{length-overwritten, length-resized}

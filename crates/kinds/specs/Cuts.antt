@@ -2,7 +2,7 @@
 use mathlib.Core.Path.{_≡_}
 use mathlib.Core.Bool.{true, false}
 use mathlib.Core.List.{List}
-use Prim.Native.Nat.{ℕ, _+_, _-_, _^_, _<_, min}
+use Prim.Native.Nat.{ℕ, _+_, _-_, _^_, min}
 use lib.Dec.{eqb}
 use lib.ListN.{length, take}
 use Rattle.std.specs.declared.option.Option.{Option}
@@ -53,6 +53,7 @@ Stores v o bs w (Err Failed) = (v .power ≡ false → w ≡ v) × (v .power ≡
 pub record Came-back (v w : SettleLater) : Type 0 where
   pub working : Picked (vec-items (v .pattern)) (held (v .working)) (held (v .settled)) (held (w .working))
   pub settled : held (w .settled) ≡ held (w .working)
+  pub ceiling : room (w .working) ≡ room (v .working)
   pub power : w .power ≡ true
   pub written : w .written ≡ 0
   pub cut : w .cut ≡ v .cut

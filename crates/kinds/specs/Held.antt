@@ -22,6 +22,7 @@ room a = length (vec-items (a .area))
 abbrev pub All-bytes : List ℕ → Type 0
 All-bytes s = (k : ℕ) → getD s k 0 < 256
 
+-- what holds of the string of every area
 pub held-fits : (a : Area) → length (held a) ≤ room a
 held-fits a = rw length-take (omega arith)
 

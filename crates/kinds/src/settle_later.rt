@@ -1,7 +1,7 @@
 // A blob for trying power cuts: its bytes wait for a settle, a write can take the power down, and a pattern chooses what a restart leaves.
 mod calls;
 mod making;
-mod stores;
+mod power;
 
 ghost use mathlib.Core.Path.{_≡_};
 ghost use Rattle.kinds.specs.Held.{room};

@@ -5,7 +5,7 @@ use blob::FaultDebug;
 use blob::FaultPartialEq;
 use std::test::*;
 
-// The cut stores four of the second write's eight bytes; of those the pattern 1, 0, 1, 0, .. takes the longer length, then the settled byte, the working one, the settled one.
+// The cut lets four of the second write's eight bytes through. The pattern's bits 1, 0, 1, 0, 0, .. then choose the longer length, and the settled, the working and twice the settled byte.
 #[test]
 fn restart_after_a_cut(rt: LibcRuntime) -> Result<(), Fail> {
     let mut blob = SettleLater::new(rt.alloc(), 16, Some(12), &[5])?;

@@ -82,9 +82,6 @@ pub impl Blob for SettleLater as SettleLaterBlob {
         ensures restarted { λ _. ⌜ Restarted (later (now (self .entry))) (later (now (self .exit))) ⌝ }
         ensures back { λ _. ⌜ Came-back (now (self .entry)) (now (self .exit)) ⌝ }
     {
-        self.working.pick(&self.settled, &self.pattern);
-        self.settled.copy_from(&self.working);
-        self.power = true;
-        self.written = 0;
+        self.come_back();
     }
 }

@@ -1,7 +1,5 @@
 // Making a settle-later blob.
-ghost use mathlib.Core.Path.{_≡_};
 ghost use mathlib.Core.List.{[]};
-ghost use Rattle.std.specs.Of.Vec.{vec-items};
 ghost use Rattle.kinds.specs.Making.{Made, Fresh};
 ghost use Rattle.kinds.specs.Later.{later};
 ghost use Rattle.kinds.specs.Cuts.{Planned};

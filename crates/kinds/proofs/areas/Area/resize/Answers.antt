@@ -3,7 +3,7 @@ use native.Mathlib.Omega.{arith}
 use borrow.Author.Needs.{needs}
 use lib.ListN.{length}
 use Rattle.std.specs.Of.Vec.{vec-items}
-use Rattle.std.proofs.shelf.Lists.{places, refilled-is}
+use Rattle.std.proofs.shelf.Lists.{refilled-is}
 use Rattle.kinds.proofs.Fronts.{front-resized}
 use Rattle.kinds.proofs.areas.Area.resize.Needs as need
 

@@ -2,7 +2,6 @@ use mathlib.Core.Path.{_≡_}
 use native.Mathlib.Omega.{arith}
 use borrow.Author.Needs.{needs}
 use lib.ListN.{length}
-use Rattle.std.specs.Of.Vec.{vec-items}
 use Rattle.std.proofs.shelf.Lists.{refilled-is}
 use Rattle.kinds.proofs.Fronts.{front-put}
 use Rattle.kinds.proofs.areas.Area.with_bytes.Needs as need

@@ -1,7 +1,5 @@
-use mathlib.Core.Path.{_≡_, sym, _∙_}
-use mathlib.Core.Bool.{true, false}
+use mathlib.Core.Path.{sym, _∙_}
 use mathlib.Core.Logic.{inr}
-use native.Mathlib.Omega.{arith}
 use borrow.Author.Needs.{needs}
 use Rattle.std.proofs.shelf.Tests.{eqb-true, both-ways}
 use Rattle.kinds.proofs.Later.{write-done, write-cut, stored-most}

@@ -1,10 +1,9 @@
-// The part of a write that comes before the power goes down.
+// What power does: a write may take it down, and a restart brings it back.
 ghost use mathlib.Core.Path.{_≡_};
-ghost use mathlib.Core.Bool.{true};
 ghost use Prim.Native.Nat.{_+_, _≤_};
 ghost use lib.ListN.{length};
 ghost use Rattle.kinds.specs.Held.{held, room};
-ghost use Rattle.kinds.specs.Cuts.{stored, Stored};
+ghost use Rattle.kinds.specs.Cuts.{stored, Stored, Came-back};
 use super::SettleLater;
 
 // How many of `n` bytes are stored before the power goes down.
@@ -28,5 +27,15 @@ impl SettleLater {
         self.working.write(offset, &bytes[0..count as usize]);
         self.written = self.written.saturating_add(count);
         self.power = count == n;
+    }
+
+    // Shows and settles what the pattern picks.
+    pub(super) fn come_back(&mut self)
+        ensures { λ _. ⌜ Came-back (now (self .entry)) (now (self .exit)) ⌝ }
+    {
+        self.working.pick(&self.settled, &self.pattern);
+        self.settled.copy_from(&self.working);
+        self.power = true;
+        self.written = 0;
     }
 }
