@@ -1,0 +1,5 @@
+mod Fronts
+mod Later
+mod Picking
+mod Settled
+mod Strings
