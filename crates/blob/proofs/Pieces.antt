@@ -101,7 +101,7 @@ module _ (v m : BlobValue) (o : ℕ) (xs ys : List ℕ) (p : Pieced v m o xs) wh
     long = omega (arith, long, d .long);
     short = omega (arith, d .short, ap length two);
     outside = λ k j. d .outside k (⊎-elim (λ (i : k < o). inl (omega arith)) (λ (i : o + length (xs ++ ys) ≤ k). inr (let l = simp length-append at i in omega arith)) j)
-      ∙ outside k (⊎-elim (λ (i : k < o). inl i) (λ (i : o + length (xs ++ ys) ≤ k). inr (let l = simp length-append at i in omega arith)) j);
+        ∙ outside k (⊎-elim (λ (i : k < o). inl i) (λ (i : o + length (xs ++ ys) ≤ k). inr (let l = simp length-append at i in omega arith)) j);
     firm-bytes = λ k f e. d .firm-bytes k (firm-so-far k f e) (same-next k e) ∙ same-so-far k e;
     keeps = kept w (d .keeps);
   }

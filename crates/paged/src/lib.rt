@@ -3,6 +3,7 @@ mod page_read;
 mod refusal;
 mod sync_state;
 
+pub use page_read::page_buffer_refusal;
 pub use page_read::page_verdict;
 pub use page_read::read_page;
 pub use refusal::BlobCall;
