@@ -28,11 +28,12 @@ pub record Planned (b : SettleLater) (c : Option ℕ) (p : List ℕ) : Type 0 wh
   pub pattern : vec-items (b .pattern) ≡ p
   pub written : b .written ≡ 0
 
--- the calls that count no byte leave the cut, the count and the pattern as they are
+-- the calls that count no byte leave the cut, the count, the pattern and the power as they are, so with power up they do not fail
 pub record Keeps-plan (v w : SettleLater) : Type 0 where
   pub cut : w .cut ≡ v .cut
   pub written : w .written ≡ v .written
   pub pattern : w .pattern ≡ v .pattern
+  pub power : w .power ≡ v .power
 
 -- a write with power up stores the first bytes, up to the cut, and power stays up where those are all; the count stops at the largest u64
 pub record Stored (v : SettleLater) (o : ℕ) (bs : List ℕ) (w : SettleLater) : Type 0 where
