@@ -1,1 +1,2 @@
 mod PageReads
+pub mod Rows
