@@ -1,1 +1,2 @@
+mod FirstPages
 mod Lifts
