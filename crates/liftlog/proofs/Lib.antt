@@ -1,0 +1,2 @@
+mod FirstPages
+mod Lifts
