@@ -1,2 +1,2 @@
-mod FirstPages
 mod Lifts
+mod Pages

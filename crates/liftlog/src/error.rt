@@ -1,6 +1,6 @@
 // What can go wrong in the lift log, each as a sentence.
-use blob::Fault;
 use kinds::MakeError;
+use paged::BlobCall;
 use paged::InputRefusal;
 use paged::Refusal;
 use paged::StateRefusal;
@@ -12,17 +12,11 @@ use std::fmt;
 #[derive(Clone, Copy)]
 pub enum LogError {
     NoMemory,
-    // There is no lift to write.
-    NoLifts,
-    // The lifts have more bytes than a page takes.
-    PageFull(usize),
     // The blob was not made.
     NotMade(MakeError),
-    // The blob did not take the page.
-    NotWritten(Fault),
-    // The page was not read.
-    NotRead(Refusal<()>),
-    // What stands on the page ends within a record.
+    // A call of the log was refused.
+    Refused(Refusal<()>),
+    // What stands in the pages ends within a record.
     CutRecord,
 }
 
@@ -30,16 +24,16 @@ pub impl fmt::Display for LogError as LogErrorDisplay {
     fn fmt<W: fmt::Write>(&self, f: &mut fmt::Formatter<W>) -> fmt::Result {
         match *self {
             LogError::NoMemory => f.write_str("There is no memory left for the lift log."),
-            LogError::NoLifts => f.write_str("There is no lift to write."),
-            LogError::PageFull(n) => write!(f, "The lifts take {n} bytes, more than a page has."),
             LogError::NotMade(why) => write!(f, "The log was not made: {}.", why_not_made(why)),
-            LogError::NotWritten(why) => write!(
-                f,
-                "The page was not written: {}.",
-                why_not_written(why)
-            ),
-            LogError::NotRead(why) => write!(f, "The page was not read: {}.", why_not_read(why)),
-            LogError::CutRecord => f.write_str("The last lift on the page is cut short."),
+            LogError::Refused(refusal) => {
+                let number = number_of(refusal);
+                write!(
+                    f,
+                    "The log was refused (number {number}): {}.",
+                    why_refused(refusal)
+                )
+            }
+            LogError::CutRecord => f.write_str("The last lift in the log is cut short."),
         }
     }
 }
@@ -61,37 +55,47 @@ fn why_not_made(why: MakeError) -> &'static str {
     }
 }
 
-fn why_not_written(why: Fault) -> &'static str {
-    match why {
-        Fault::Refused => "the storage has no room for it",
-        Fault::Failed => "the storage has no power",
-    }
-}
-
-fn why_not_read(why: Refusal<()>) -> &'static str {
-    match why {
-        Refusal::Input((), refusal) => why_refused(refusal),
-        Refusal::State(refusal) => why_stopped(refusal),
-    }
-}
-
-fn why_refused(refusal: InputRefusal) -> &'static str {
+// The number in the list of refusals.
+fn number_of(refusal: Refusal<()>) -> u8 {
     match refusal {
-        InputRefusal::PageSizeZero => "its size is 0",
+        Refusal::Input((), input) => input.number(),
+        Refusal::State(state) => state.number(),
+    }
+}
+
+fn why_refused(refusal: Refusal<()>) -> &'static str {
+    match refusal {
+        Refusal::Input((), input) => why_input(input),
+        Refusal::State(state) => why_state(state),
+    }
+}
+
+fn why_input(refusal: InputRefusal) -> &'static str {
+    match refusal {
+        InputRefusal::PageSizeZero => "the page size is 0",
         InputRefusal::CapacityTooLarge => "the wish for capacity is too large",
         InputRefusal::TipBufferShort => "the tip buffer is too short",
         InputRefusal::PageBufferShort => "the page buffer is too short",
         InputRefusal::SizeMismatch => "the storage has another size than expected",
-        InputRefusal::PageOutOfRange => "its number is too large",
+        InputRefusal::PageOutOfRange => "the page's number is too large",
     }
 }
 
-fn why_stopped(refusal: StateRefusal) -> &'static str {
+fn why_state(refusal: StateRefusal) -> &'static str {
     match refusal {
-        StateRefusal::CeilingPassed => "it would pass the ceiling of the storage",
-        StateRefusal::CallFailed(_, _) => "the storage has no power",
-        StateRefusal::PageRejected => "none of its slots is valid",
+        StateRefusal::CeilingPassed => "the storage has no room for the lift",
+        StateRefusal::CallFailed(call, _) => why_failed(call),
+        StateRefusal::PageRejected => "none of the page's slots is valid",
         StateRefusal::PagePastEnd => "the storage ends before the page does",
+    }
+}
+
+fn why_failed(call: BlobCall) -> &'static str {
+    match call {
+        BlobCall::Read => "the storage could not be read",
+        BlobCall::Write => "the storage could not be written",
+        BlobCall::Resize => "the storage could not be cut",
+        BlobCall::Settle => "the storage could not be settled",
     }
 }
 
@@ -113,14 +117,17 @@ pub impl From<MakeError> for LogError as LogErrorFromMake {
     }
 }
 
-pub impl From<Fault> for LogError as LogErrorFromFault {
-    fn from(error: Fault) -> LogError {
-        LogError::NotWritten(error)
+pub impl From<InputRefusal> for LogError as LogErrorFromInput {
+    fn from(error: InputRefusal) -> LogError {
+        LogError::Refused(Refusal::Input((), error))
     }
 }
 
-pub impl From<Refusal<()>> for LogError as LogErrorFromRefusal {
-    fn from(error: Refusal<()>) -> LogError {
-        LogError::NotRead(error)
+pub impl<W: Drop> From<Refusal<W>> for LogError as LogErrorFromRefusal {
+    fn from(error: Refusal<W>) -> LogError {
+        match error {
+            Refusal::Input(_, refusal) => LogError::Refused(Refusal::Input((), refusal)),
+            Refusal::State(refusal) => LogError::Refused(Refusal::State(refusal)),
+        }
     }
 }
