@@ -1,0 +1,9 @@
+pub mod Slots
+pub mod Guard
+pub mod Verdicts
+pub mod Places
+pub mod Standing
+pub mod Calls
+pub mod Kept
+pub mod Opening
+pub mod Altered
