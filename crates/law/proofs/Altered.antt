@@ -15,8 +15,8 @@ use Rattle.law.proofs.Places.{same-slot}
 use Rattle.law.proofs.Slots.{Neat, slot-of, slot-start}
 use Rattle.law.proofs.Verdicts.{by-some}
 
-string-take : (n : ℕ) (x : List ℕ) → n ≤ 65535 → ((k : ℕ) → getD x k 0 < 256) → Page-bytes (take n x)
-string-take n x l h = record {
+pub bytes-take : (n : ℕ) (x : List ℕ) → n ≤ 65535 → ((k : ℕ) → getD x k 0 < 256) → Page-bytes (take n x)
+bytes-take n x l h = record {
   few = simp length-take (omega arith);
   bytes = λ k. ⊎-elim (λ d. subst (λ m. m < 256) (sym (getD-take n x k 0 d)) (h k))
     (λ (d : n ≤ k). subst (λ m. m < 256) (sym (getD-past (take n x) k 0 (simp length-take (omega arith)))) (omega arith)) (cases-lt k n);
@@ -50,7 +50,7 @@ module _ (sum : List ℕ → ℕ) (law : Tells-one sum) (p : ℕ) (small : p ≤
         (λ h. ⊎-elim
           (λ e. absurd (omega arith))
           (λ u. absurd (law (take (slot-of p y w .len) y) (take (slot-of p y w .len) x)
-            (string-take (slot-of p y w .len) y (omega (arith, v .high)) bytes-y) (string-take (slot-of p y w .len) x (omega (arith, v .high)) bytes-x) (apart (slot-of p y w .len) h (v .high))
+            (bytes-take (slot-of p y w .len) y (omega (arith, v .high)) bytes-y) (bytes-take (slot-of p y w .len) x (omega (arith, v .high)) bytes-x) (apart (slot-of p y w .len) h (v .high))
             (v .check ∙ c ∙ sym (u .check) ∙ ap (λ n. sum (take n x)) (sym l))))
           (neat w))
         (λ h. omega (arith, z .1 .1))

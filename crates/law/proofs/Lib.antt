@@ -7,3 +7,7 @@ pub mod Calls
 pub mod Kept
 pub mod Opening
 pub mod Altered
+pub mod Physical
+pub mod Writer
+pub mod Written
+pub mod Put

@@ -18,38 +18,38 @@ use Rattle.law.proofs.Places.{page-byte, page-long}
 use Rattle.law.proofs.Verdicts.{by-some}
 
 module _ (sum : List ℕ → ℕ) (page : List ℕ) where
-  pub page-place-covered : (k : ℕ) → k < cover sum page → page-place sum page k ≡ byte (getD page k 0)
+  pub place-covered : (k : ℕ) → k < cover sum page → page-place sum page k ≡ byte (getD page k 0)
   unfolding page-place
-  page-place-covered k h = cond-true (ltb k (cover sum page)) _ _ (lt-ltb _ _ h)
+  place-covered k h = cond-true (ltb k (cover sum page)) _ _ (lt-ltb _ _ h)
 
-  pub page-place-bare : (k : ℕ) → cover sum page ≤ k → page-place sum page k ≡ gap
+  pub place-bare : (k : ℕ) → cover sum page ≤ k → page-place sum page k ≡ gap
   unfolding page-place
-  page-place-bare k h = cond-false (ltb k (cover sum page)) _ _ (le-ltb _ _ h)
+  place-bare k h = cond-false (ltb k (cover sum page)) _ _ (le-ltb _ _ h)
 
-  pub page-place-byte : (k b : ℕ) → page-place sum page k ≡ byte b → (k < cover sum page) × (getD page k 0 ≡ b)
-  page-place-byte k b e = ⊎-elim
-    (λ h. (h, let c = sym (page-place-covered k h) ∙ e in cc))
-    (λ h. let c = sym (page-place-bare k h) ∙ e in let z : _≡_ {A = ℕ} 0 1 = cc in absurd (omega arith))
+  pub place-byte : (k b : ℕ) → page-place sum page k ≡ byte b → (k < cover sum page) × (getD page k 0 ≡ b)
+  place-byte k b e = ⊎-elim
+    (λ h. (h, let c = sym (place-covered k h) ∙ e in cc))
+    (λ h. let c = sym (place-bare k h) ∙ e in let z : _≡_ {A = ℕ} 0 1 = cc in absurd (omega arith))
     (cases-lt k (cover sum page))
 
-  pub page-places-long : (n : ℕ) → length (page-places sum page n) ≡ n
+  pub places-long : (n : ℕ) → length (page-places sum page n) ≡ n
   unfolding page-places
-  page-places-long zero = refl
-  page-places-long (suc n) = simp length-append (omega (arith, page-places-long n))
+  places-long zero = refl
+  places-long (suc n) = simp length-append (omega (arith, places-long n))
 
-  pub page-places-at : (n k : ℕ) → k < n → getD (page-places sum page n) k gap ≡ page-place sum page k
+  pub places-at : (n k : ℕ) → k < n → getD (page-places sum page n) k gap ≡ page-place sum page k
   unfolding page-places
-  page-places-at zero k h = absurd (omega arith)
-  page-places-at (suc n) k h = ⊎-elim
-    (λ l. getD-append-left (page-places sum page n) _ gap k (omega (arith, page-places-long n)) ∙ page-places-at n k l)
-    (λ l. let e : k ≡ n = omega arith in ap (λ m. getD (page-places sum page n ++ (page-place sum page n ∷ [])) m gap) e ∙ getD-push (page-places sum page n) _ gap n (page-places-long n) ∙ ap (page-place sum page) (sym e))
+  places-at zero k h = absurd (omega arith)
+  places-at (suc n) k h = ⊎-elim
+    (λ l. getD-append-left (page-places sum page n) _ gap k (omega (arith, places-long n)) ∙ places-at n k l)
+    (λ l. let e : k ≡ n = omega arith in ap (λ m. getD (page-places sum page n ++ (page-place sum page n ∷ [])) m gap) e ∙ getD-push (page-places sum page n) _ gap n (places-long n) ∙ ap (page-place sum page) (sym e))
     (cases-lt k n)
 
 module _ (sum : List ℕ → ℕ) (p : ℕ) (s : List ℕ) where
   pub row-long : (n : ℕ) → length (full-rows sum p s n) ≡ n * p
   unfolding full-rows
   row-long zero = omega arith
-  row-long (suc n) = simp length-append (omega (arith, row-long n, page-places-long sum (page-at p s n) p))
+  row-long (suc n) = simp length-append (omega (arith, row-long n, places-long sum (page-at p s n) p))
 
   row-at : (n i j : ℕ) → i < n → j < p → getD (full-rows sum p s n) (i * p + j) gap ≡ page-place sum (page-at p s i) j
   unfolding full-rows
@@ -59,7 +59,7 @@ module _ (sum : List ℕ → ℕ) (p : ℕ) (s : List ℕ) where
     (λ l. let e : i ≡ n = omega arith in
       subst (λ m. getD (full-rows sum p s n ++ page-places sum (page-at p s n) p) (m * p + j) gap ≡ page-place sum (page-at p s m) j) (sym e)
         (getD-append-right (full-rows sum p s n) _ (n * p) (n * p + j) gap (row-long n) (omega arith)
-          ∙ ap (λ m. getD (page-places sum (page-at p s n) p) m gap) (omega arith) ∙ page-places-at sum (page-at p s n) p j g))
+          ∙ ap (λ m. getD (page-places sum (page-at p s n) p) m gap) (omega arith) ∙ places-at sum (page-at p s n) p j g))
     (cases-lt i n)
 
   -- a place of the log, in one of its pages and behind them
@@ -73,8 +73,8 @@ module _ (sum : List ℕ → ℕ) (p : ℕ) (s : List ℕ) where
       subst (λ m. getD (full-rows sum p s n ++ last) (m * p + j) gap ≡ page-place sum (page-at p s m) j) (sym e)
         (getD-append-right (full-rows sum p s n) last (n * p) (n * p + j) gap (row-long n) (omega arith)
           ∙ ap (λ m. getD last m gap) (omega arith)
-          ∙ ⊎-elim (λ c. page-places-at sum (page-at p s n) _ j c)
-              (λ c. getD-past last j gap (omega (arith, page-places-long sum (page-at p s n) (cover sum (page-at p s n)))) ∙ sym (page-place-bare sum (page-at p s n) j c))
+          ∙ ⊎-elim (λ c. places-at sum (page-at p s n) _ j c)
+              (λ c. getD-past last j gap (omega (arith, places-long sum (page-at p s n) (cover sum (page-at p s n)))) ∙ sym (place-bare sum (page-at p s n) j c))
               (cases-lt j (cover sum (page-at p s n)))))
     (cases-lt i n)
 
@@ -106,14 +106,14 @@ module _ (sum : List ℕ → ℕ) (p : ℕ) (s : List ℕ) where
     let in-page = kept-over (whole-pages p s) (k / p) (whole-page (k / p) (x .whole)) (omega arith) in
     ap (λ m. getD (pages-log sum p s (pages-kept sum p s (whole-pages p s))) m gap) (sym q)
       ∙ log-in _ (k / p) (k % p) in-page r
-      ∙ page-place-covered sum (page-at p s (k / p)) (k % p) c
+      ∙ place-covered sum (page-at p s (k / p)) (k % p) c
       ∙ ap byte (page-byte p s (k / p) (k % p) (omega arith) ∙ x .here)
 
   log-past : (n i j : ℕ) → n ≤ i → j < p → ((i : ℕ) → i < n → cover sum (page-at p s i) ≤ p) → getD (pages-log sum p s n) (i * p + j) gap ≡ gap
   unfolding pages-log
   log-past zero i j h g c = refl
   log-past (suc n) i j h g c = getD-past (full-rows sum p s n ++ page-places sum (page-at p s n) (cover sum (page-at p s n))) (i * p + j) gap
-    (simp length-append (omega (arith, row-long n, page-places-long sum (page-at p s n) (cover sum (page-at p s n)), c n (omega arith), mul-le (suc n) p i p h (omega arith))))
+    (simp length-append (omega (arith, row-long n, places-long sum (page-at p s n) (cover sum (page-at p s n)), c n (omega arith), mul-le (suc n) p i p h (omega arith))))
 
   pub covers-few : (i : ℕ) → start p i + (p + 12) ≤ length s → cover sum (page-at p s i) ≤ p
   covers-few i h = ⊎-elim (λ e. omega arith) (λ x. omega (arith, x .1 .0 .high, x .1 .1)) (by-some sum p (page-at p s i) (page-long p s i h))
@@ -132,7 +132,7 @@ module _ (sum : List ℕ → ℕ) (p : ℕ) (s : List ℕ) where
     ⊎-elim
       (λ l.
         let whole = page-whole i (omega arith) in
-        let x = page-place-byte sum (page-at p s i) j b (sym (log-in n i j l h) ∙ e) in
+        let x = place-byte sum (page-at p s i) j b (sym (log-in n i j l h) ∙ e) in
         record { whole = whole; here = sym (page-byte p s i j (omega arith)) ∙ x .1; covered = x .0 })
       (λ l. let c = sym (log-past n i j l h (λ k q. covers-few k (page-whole k (omega arith)))) ∙ e in let z : _≡_ {A = ℕ} 0 1 = cc in absurd (omega arith))
       (cases-lt i (pages-kept sum p s (whole-pages p s)))

@@ -1,13 +1,13 @@
 -- Where pages lie, and pages that agree below a slot and in it.
 use mathlib.Core.List.{List}
-use mathlib.Core.Path.{_∙_, _≡_, ap, subst, sym}
+use mathlib.Core.Path.{_∙_, _≡_, ap, refl, subst, sym}
 use Prim.Native.Nat.{_+_, _<_, _≤_, ℕ}
 use native.Mathlib.Nat.{add-assoc, add-zero}
 use native.Mathlib.Omega.{arith}
 use lib.ListN.{drop, getD, length, length-drop, length-take, take}
 use Rattle.std.proofs.shelf.Bits.{mul-le}
 use Rattle.std.proofs.shelf.Lists.{ext-getD, getD-drop, getD-take}
-use Rattle.page.specs.Footer.{four-at, two-at}
+use Rattle.page.specs.Footer.{four-at, other-slot, two-at}
 use Rattle.page.specs.Layout.{page-at, start}
 use Rattle.page.specs.declared.slot.ActiveChecksum.{ActiveChecksum}
 use Rattle.page.specs.declared.slot.Slot.{Slot}
@@ -33,6 +33,10 @@ page-long p s i h = simp (length-take, length-drop) (omega arith)
 pub slot-inside : (p : ℕ) (w : Slot) (k : ℕ) → k < 6 → slot-start p w + k < p + 12
 slot-inside p First k h = omega arith
 slot-inside p Second k h = omega arith
+
+pub other-twice : (a : Slot) → other-slot (other-slot a) ≡ a
+other-twice First = refl
+other-twice Second = refl
 
 pub same-take : (n : ℕ) (x y : List ℕ) → n ≤ length x → n ≤ length y → ((k : ℕ) → k < n → getD y k 0 ≡ getD x k 0) → take n y ≡ take n x
 same-take n x y h g e = ext-getD 0 (take n y) (take n x) (simp length-take (omega arith))
