@@ -11,3 +11,5 @@ pub mod Physical
 pub mod Writer
 pub mod Written
 pub mod Put
+pub mod Carrying
+pub mod Steps
