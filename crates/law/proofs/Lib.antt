@@ -13,3 +13,4 @@ pub mod Written
 pub mod Put
 pub mod Carrying
 pub mod Steps
+pub mod Sync
