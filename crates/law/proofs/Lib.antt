@@ -14,3 +14,4 @@ pub mod Put
 pub mod Carrying
 pub mod Steps
 pub mod Sync
+pub mod Open
