@@ -29,14 +29,14 @@ pub slot-behind : (p : ℕ) (w : Slot) → p ≤ slot-start p w
 slot-behind p First = omega arith
 slot-behind p Second = omega arith
 
-slot-within : (p : ℕ) (w : Slot) → slot-start p w + 6 ≤ p + 12
+pub slot-within : (p : ℕ) (w : Slot) → slot-start p w + 6 ≤ p + 12
 slot-within p First = omega arith
 slot-within p Second = omega arith
 
-slots-apart : (p : ℕ) (w : Slot) (k : ℕ) → k < 6 → (s a n : ℕ) → a + n ≤ 6
-    → (s + (slot-start p w + k) < s + (slot-start p (other-slot w) + a)) ⊎ (s + (slot-start p (other-slot w) + a) + n ≤ s + (slot-start p w + k))
-slots-apart p First k h s a n l = inl (omega arith)
-slots-apart p Second k h s a n l = inr (omega arith)
+pub slots-apart : (p : ℕ) (w : Slot) (k : ℕ) → k < 6 → (s n : ℕ) → n ≤ 6
+    → (s + (slot-start p w + k) < s + slot-start p (other-slot w)) ⊎ (s + slot-start p (other-slot w) + n ≤ s + (slot-start p w + k))
+slots-apart p First k h s n l = inl (omega arith)
+slots-apart p Second k h s n l = inr (omega arith)
 
 module _ (sum : List ℕ → ℕ) (p : ℕ) (v u : BlobValue) (promise : List Place) where
   -- a guard of byte j of page i whose places a call leaves
@@ -143,11 +143,11 @@ module _ (sum : List ℕ → ℕ) (p : ℕ) (v u : BlobValue) (promise : List Pl
       (cases-order i c))
 
   -- a write in one slot of a page, where the other slot guards the promise
-  pub write-slot : (c a : ℕ) (w : Slot) (bs : List ℕ) (r : Result (Unit {0}) Fault) → a + length bs ≤ 6
+  pub write-slot : (c : ℕ) (w : Slot) (bs : List ℕ) (r : Result (Unit {0}) Fault) → length bs ≤ 6
       → ((j b : ℕ) → j < p → getD promise (c * p + j) gap ≡ byte b → Backed sum p v c j b w)
-      → Wrote v (start p c + (slot-start p (other-slot w) + a)) bs u r → Guard sum p v promise → Guard sum p u promise
-  write-slot c a w bs r small by d g =
-      let o = start p c + (slot-start p (other-slot w) + a) in
+      → Wrote v (start p c + slot-start p (other-slot w)) bs u r → Guard sum p v promise → Guard sum p u promise
+  write-slot c w bs r small by d g =
+      let o = start p c + slot-start p (other-slot w) in
       by-write o bs r d g
       (λ from i j b h e.
       let x = g i j b h e in
@@ -159,7 +159,7 @@ module _ (sum : List ℕ → ℕ) (p : ℕ) (v u : BlobValue) (promise : List Pl
       record {
         which = w; backed = z; below = z .whole;
         on-data = λ k l. same-out v u o bs (start p c + k) from (inl (omega (arith, z .valid .high, slot-behind p (other-slot w))));
-        on-slot = λ k l. same-out v u o bs (start p c + (slot-start p w + k)) from (slots-apart p w k l (start p c) a (length bs) small);
+        on-slot = λ k l. same-out v u o bs (start p c + (slot-start p w + k)) from (slots-apart p w k l (start p c) (length bs) small);
       }))
       (⊎-elim
       (λ q. let t = start-less p i c q in record {

@@ -15,3 +15,4 @@ pub mod Carrying
 pub mod Steps
 pub mod Sync
 pub mod Open
+pub mod Cut
