@@ -16,3 +16,4 @@ pub mod Steps
 pub mod Sync
 pub mod Open
 pub mod Cut
+pub mod Shorten
