@@ -56,6 +56,13 @@ fault-stop call at F CeilingPassed d = absurd d
 fault-stop call at F PageRejected d = absurd d
 fault-stop call at F PagePastEnd d = absurd d
 
+-- a settled blob that shows s and guards the promise
+pub record Stage (sum : List ℕ → ℕ) (p : ℕ) (promise : List Place) (s : List ℕ) (x : BlobValue) : Type 0 where
+  pub sound : Sound x
+  pub settled : Settled x
+  pub guard : Guard sum p x promise
+  pub shows : x .shown ≡ s
+
 -- a row of one write, and a write with a settle behind it
 module _ (sum : List ℕ → ℕ) (p : ℕ) (promise : List Place) (v : BlobValue) (o : ℕ) (bs : List ℕ) (now : Guard sum p v promise)
     (g : (y : BlobValue) (r : Result (Unit {0}) Fault) → Wrote v o bs y r → Guard sum p y promise) where
@@ -63,22 +70,15 @@ module _ (sum : List ℕ → ℕ) (p : ℕ) (promise : List Place) (v : BlobValu
   one-stopped u k (inl d) = (d .0, write-stop (λ x. Guard sum p x promise) v u now o bs k (g u) (d .1))
   one-stopped u k (inr d) = absurd (d .1 .2)
 
-  -- after both calls
-  pub record Stored (x : BlobValue) : Type 0 where
-    pub sound : Sound x
-    pub settled : Settled x
-    pub guard : Guard sum p x promise
-    pub shows : x .shown ≡ overwritten (v .shown) o bs
-
-  stored : (m x : BlobValue) → Write-done v m o bs → Sound x → Settle-done m x → Stored x
+  stored : (m x : BlobValue) → Write-done v m o bs → Sound x → Settle-done m x → Stage sum p promise (overwritten (v .shown) o bs) x
   stored m x done s fixed =
       record { sound = s; settled = fixed .settled; guard = settle-keeps sum p m x promise (Ok tt) s fixed (g m (Ok tt) done); shows = fixed .shows ∙ done .shows }
 
-  pub two-ran : (u : BlobValue) (ops : List Op) → Carried v (writes o bs ∷ settles ∷ ops) u (Ok tt) → (x : BlobValue) × (Stored x × Carried x ops u (Ok tt))
+  pub two-ran : (u : BlobValue) (ops : List Op) → Carried v (writes o bs ∷ settles ∷ ops) u (Ok tt) → (x : BlobValue) × (Stage sum p promise (overwritten (v .shown) o bs) x × Carried x ops u (Ok tt))
   two-ran u ops d = let e = d .1 .2 in (e .0, (stored (d .0) (e .0) (d .1 .1) (e .1 .0) (e .1 .1), e .1 .2))
 
   pub two-stopped : (u : BlobValue) (k : StateRefusal) (ops : List Op) → Carried v (writes o bs ∷ settles ∷ ops) u (Err k)
-      → (Sound u × Guard sum p u promise) ⊎ ((x : BlobValue) × (Stored x × Carried x ops u (Err k)))
+      → (Sound u × Guard sum p u promise) ⊎ ((x : BlobValue) × (Stage sum p promise (overwritten (v .shown) o bs) x × Carried x ops u (Err k)))
   two-stopped u k ops (inl d) = inl (d .0, write-stop (λ x. Guard sum p x promise) v u now o bs k (g u) (d .1))
   two-stopped u k ops (inr d) = ⊎-elim
       (λ y. let z = fault-stop settle-call 0 (λ fault. Settling (d .0) u (Err fault)) k (y .1) in inl (y .0, settle-keeps sum p (d .0) u promise (Err (z .0)) (y .0) (z .1) (g (d .0) (Ok tt) (d .1 .1))))

@@ -155,6 +155,9 @@ module _ (sum : List ℕ → ℕ) (p : ℕ) (pos : 0 < p) (v : BlobValue) (w : W
         neat = λ u d. cut-all-neat u (cut-ran u d .0);
       }
 
+  pub cut-inside : start p (n / p) ≤ length (v .shown)
+  cut-inside = omega (arith, short .0, start-up (n / p) (w .page) in-pages)
+
   -- a byte of the log in the page that n lies in
   at-tip : (f : Option ActiveChecksum) → Flushed sum p (v .shown) (w .page) (w .tip) f → Even (w .tip) f → (k : ℕ) → k < length (w .tip) → getD log (w .page * p + k) gap ≡ byte (getD (page-at p (v .shown) (w .page)) k 0)
   at-tip None e q k h = absurd (omega (arith, q))

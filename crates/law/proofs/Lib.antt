@@ -17,3 +17,4 @@ pub mod Sync
 pub mod Open
 pub mod Cut
 pub mod Shorten
+pub mod Truncate
