@@ -1,1 +1,4 @@
 pub mod Log
+pub mod Events
+pub mod Lines
+pub mod Law
