@@ -18,3 +18,5 @@ pub mod Open
 pub mod Cut
 pub mod Shorten
 pub mod Truncate
+pub mod Shows
+pub mod Truncated

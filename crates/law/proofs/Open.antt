@@ -70,16 +70,18 @@ module _ (sum : List ℕ → ℕ) (p : ℕ) (s : List ℕ) where
     (cases-bool (eqb (cover sum (page-at p s n)) 0))
 
   -- bytes that end with a page that isn't rejected are opened whole
-  kept-all : (k : ℕ) → ((m : ℕ) → k ≡ suc m → 0 < cover sum (page-at p s m)) → pages-kept sum p s k ≡ k
+  pub kept-all : (k : ℕ) → ((m : ℕ) → k ≡ suc m → 0 < cover sum (page-at p s m)) → pages-kept sum p s k ≡ k
   unfolding pages-kept
   kept-all zero h = refl
   kept-all (suc m) h = cond-false (eqb (cover sum (page-at p s m)) 0) _ _ (ne-eqb _ _ (λ e. omega (arith, h m refl, e)))
 
+  pub whole-count : (k : ℕ) → length s ≡ start p k → whole-pages p s ≡ k
+  unfolding start
+  whole-count k e = ap (λ n. n / (p + 12)) (e ∙ (let z : k * (p + 12) ≡ k * (p + 12) + 0 = omega arith in z)) ∙ div-mul-add k (p + 12) 0 (omega arith)
+
   pub opened-whole : (k : ℕ) → length s ≡ start p k → ((m : ℕ) → k ≡ suc m → 0 < cover sum (page-at p s m)) → opened-log sum p s ≡ pages-log sum p s k
-  unfolding opened-log start
-  opened-whole k e h =
-    let q : whole-pages p s ≡ k = ap (λ n. n / (p + 12)) (e ∙ (let z : k * (p + 12) ≡ k * (p + 12) + 0 = omega arith in z)) ∙ div-mul-add k (p + 12) 0 (omega arith) in
-    ap (λ n. pages-log sum p s (pages-kept sum p s n)) q ∙ ap (pages-log sum p s) (kept-all k h)
+  unfolding opened-log
+  opened-whole k e h = ap (λ n. pages-log sum p s (pages-kept sum p s n)) (whole-count k e) ∙ ap (pages-log sum p s) (kept-all k h)
 
   pub log-long : (m : ℕ) → length (pages-log sum p s (suc m)) ≡ m * p + cover sum (page-at p s m)
   unfolding pages-log
