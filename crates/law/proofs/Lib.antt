@@ -20,3 +20,4 @@ pub mod Shorten
 pub mod Truncate
 pub mod Shows
 pub mod Truncated
+pub mod Lines
