@@ -21,3 +21,5 @@ pub mod Truncate
 pub mod Shows
 pub mod Truncated
 pub mod Lines
+pub mod Calm
+pub mod Law

@@ -47,7 +47,7 @@ pub record Good (sum : List ℕ → ℕ) (p : ℕ) (v : BlobValue) (w : Option L
   pub settled : m ≡ true → Settled v
 
 -- a call that reads
-record Same (v u : BlobValue) : Type 0 where
+pub record Same (v u : BlobValue) : Type 0 where
   pub shows : u .shown ≡ v .shown
   pub firm : (k : ℕ) → v .firm k ≡ true → u .firm k ≡ true
   pub settled : Settled v → Settled u
@@ -106,7 +106,7 @@ module _ (sum : List ℕ → ℕ) (fits : Fits-four sum) (p : ℕ) (pos : 0 < p)
   over : (u : BlobValue) (a : Account) → Sound u × Guard sum p u (a .promise) → Fine (at u None false) a
   over u a x = record { sound = x .0; guard = x .1; writer = tt; settled = λ e. absurd (both-ways false refl e) }
 
-  fetched-same : (v u : BlobValue) (start before after : _) (r : Result ActiveChecksum StateRefusal) → Sound u → Page-fetched sum p start v before after u r → Same v u
+  pub fetched-same : (v u : BlobValue) (start : ℕ) (before after : List ℕ) (r : Result ActiveChecksum StateRefusal) → Sound u → Page-fetched sum p start v before after u r → Same v u
   fetched-same v u start before after r s d = fetched (Same v) v u (same-none v) sum p start before after r (λ b c q. read-same v u s start b c q) d
 
   -- a page read

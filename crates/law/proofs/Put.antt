@@ -34,12 +34,15 @@ use Rattle.law.proofs.Slots.{Bytes, Neat, Valid, slot-of, slot-start}
 use Rattle.law.proofs.Writer.{All-neat, Counts, Flushed, Tracks}
 use Rattle.law.proofs.Written.{after-long, all-at, all-long, page-before, page-new, part-at, part-bytes, part-long, start-add, start-zero}
 
-pub page-bytes : (p : ℕ) (v : BlobValue) (c : ℕ) → Sound v → Bytes (page-at p (v .shown) c)
+pub bytes-of : (p : ℕ) (s : List ℕ) (c : ℕ) → Bytes s → Bytes (page-at p s c)
 unfolding page-at
-page-bytes p v c s k = ⊎-elim
-    (λ h. subst (λ n. n < 256) (sym (getD-take (p + 12) (drop (start p c) (v .shown)) k 0 h ∙ getD-drop (start p c) (v .shown) k 0)) (s .bytes (start p c + k)))
-    (λ (h : p + 12 ≤ k). subst (λ n. n < 256) (sym (getD-past (take (p + 12) (drop (start p c) (v .shown))) k 0 (simp length-take (omega arith)))) (omega arith))
+bytes-of p s c small k = ⊎-elim
+    (λ h. subst (λ n. n < 256) (sym (getD-take (p + 12) (drop (start p c) s) k 0 h ∙ getD-drop (start p c) s k 0)) (small (start p c + k)))
+    (λ (h : p + 12 ≤ k). subst (λ n. n < 256) (sym (getD-past (take (p + 12) (drop (start p c) s)) k 0 (simp length-take (omega arith)))) (omega arith))
     (cases-lt k (p + 12))
+
+pub page-bytes : (p : ℕ) (v : BlobValue) (c : ℕ) → Sound v → Bytes (page-at p (v .shown) c)
+page-bytes p v c s = bytes-of p (v .shown) c (s .bytes)
 
 -- what a flushed slot is to the page that takes its place
 pub older : (sum : List ℕ → ℕ) → Fits-four sum → (p : ℕ) → p ≤ 65535 → (v : BlobValue) (c : ℕ) (tip : List ℕ) (f : Option ActiveChecksum) → Sound v
