@@ -1,6 +1,6 @@
 -- The law: what holds of every line of calls over a blob, at every page size, for every check.
 use mathlib.Core.Path.{_≡_}
-use mathlib.Core.Bool.{true}
+use mathlib.Core.Bool.{Bool, true}
 use mathlib.Core.List.{List, [], _∷_, _++_, map}
 use Prim.Native.Nat.{ℕ, zero, suc, _+_, _*_, _<_, _≤_}
 use lib.ListN.{length, getD, set, take}
@@ -115,3 +115,7 @@ pub record Law (sum : List ℕ → ℕ) (p : ℕ) : Type 0 where
 -- for every check whose numbers fit four bytes, and every page size
 abbrev pub The-law : Type 0
 The-law = (sum : List ℕ → ℕ) → Fits-four sum → (p : ℕ) → 1 ≤ p → p ≤ 65535 → Law sum p
+
+-- the law at one page size, where the answer is that it holds there
+abbrev pub Law-at : ℕ → Bool → Type 0
+Law-at p holds = holds ≡ true → (sum : List ℕ → ℕ) → Fits-four sum → Law sum p
