@@ -45,7 +45,6 @@ use Rattle.paged.specs.declared.refusal.BlobCall.the-variants.{Resize as resize
 
 module _ (sum : List ℕ → ℕ) (p : ℕ) (pos : 0 < p) (v : BlobValue) (w : WriterState) (log promise : List Place) (i : Inv sum p v w log promise)
     (firm : Firm v) (even : Even (w .tip) (w .flushed)) (n : ℕ) (less : n < size p w) (few : (q b : ℕ) → getD promise q gap ≡ byte b → q < n) where
-
   split : n / p * p + n % p ≡ n
   split = div-add-mod' n p
 
@@ -100,14 +99,16 @@ module _ (sum : List ℕ → ℕ) (p : ℕ) (pos : 0 < p) (v : BlobValue) (w : W
       (record { sound = i .sound; firm = firm; guard = i .guard; long = counted (w .flushed) (i .flushed) ∙ ap (start p) (sym (eqb-true (pages-for p n) (page-count (w .page) (w .flushed)) e)); page = λ _ _. refl }, refl)
   cut-by false e u d = subst (λ y. Cutted sum p v y (pages-for p n) promise × (y .shown ≡ resized (v .shown) (start p (pages-for p n)))) (sym (d .1 .2))
       (let done : Resize-done v (d .0) (start p (pages-for p n)) = d .1 .1 in
-      let long : length (d .0 .shown) ≡ start p (pages-for p n) = ap length (done .shows) ∙ cut-long p (v .shown) (pages-for p n) inside in
-      (record {
-        sound = d .1 .0;
-        firm = λ k h. let l : k < start p (pages-for p n) = omega (arith, long) in done .keeps .firm k (firm k (omega (arith, inside))) l;
-        guard = resized-guard (d .0) (Ok tt) done;
-        long = long;
-        page = λ j h. ap (λ z. page-at p z j) (done .shows) ∙ cut-page p (v .shown) (pages-for p n) inside j h;
-      }, done .shows))
+      let long : length (d .0 .shown) ≡ start p (pages-for p n) = ap length (done .shows) ∙ cut-long p (v .shown) (pages-for p n) inside in (
+        record {
+          sound = d .1 .0;
+          firm = λ k h. let l : k < start p (pages-for p n) = omega (arith, long) in done .keeps .firm k (firm k (omega (arith, inside))) l;
+          guard = resized-guard (d .0) (Ok tt) done;
+          long = long;
+          page = λ j h. ap (λ z. page-at p z j) (done .shows) ∙ cut-page p (v .shown) (pages-for p n) inside j h;
+        },
+        done .shows,
+      ))
 
   pub cut-ran : (u : BlobValue) → Carried v (resize-row p n w) u (Ok tt) → Cutted sum p v u (pages-for p n) promise × (u .shown ≡ resize-shows p n w (v .shown))
   cut-ran = cut-by (count-stays p n w) refl
@@ -137,7 +138,7 @@ module _ (sum : List ℕ → ℕ) (p : ℕ) (pos : 0 < p) (v : BlobValue) (w : W
     long = length-take n log ∙ omega (arith, i .tracks .long, split);
     in-tip = λ k h. getD-take n log (n / p * p + k) gap (omega (arith, split)) ∙ at k (omega arith);
     in-page = λ a j h q.
-      getD-take n log (a * p + j) gap (omega (arith, split, mul-add-lt a p j (n / p) h q)) ∙ i .tracks .in-page a j (omega (arith, in-pages)) q ∙ ap (λ x. page-place sum x j) (sym (same a h));
+        getD-take n log (a * p + j) gap (omega (arith, split, mul-add-lt a p j (n / p) h q)) ∙ i .tracks .in-page a j (omega (arith, in-pages)) q ∙ ap (λ x. page-place sum x j) (sym (same a h));
   }
 
   pub even-kept : n % p ≡ 0 → Kept sum p v (even-plan p n w) (take n log) promise
@@ -145,12 +146,17 @@ module _ (sum : List ℕ → ℕ) (p : ℕ) (pos : 0 < p) (v : BlobValue) (w : W
       let m : pages-for p n ≡ n / p = cond-true (eqb (n % p) 0) _ _ (ap (λ x. eqb x 0) z) in
       record {
         ran = λ u d.
-          let c = cut-ran u d .0 in
-          record {
-            sound = c .sound; guard = c .guard; bytes = λ k. omega arith; flushed = ap (start p) (sym m) ∙ sym (c .long);
-            tracks = tracks-cut (u .shown) [] (λ j h. c .page j (omega (arith, m))) (sym z) (λ k h. absurd (omega arith));
-            firm = inl (c .firm); settled = cut-settled u d; durable = refl;
-          };
+            let c = cut-ran u d .0 in
+            record {
+              sound = c .sound;
+              guard = c .guard;
+              bytes = λ k. omega arith;
+              flushed = ap (start p) (sym m) ∙ sym (c .long);
+              tracks = tracks-cut (u .shown) [] (λ j h. c .page j (omega (arith, m))) (sym z) (λ k h. absurd (omega arith));
+              firm = inl (c .firm);
+              settled = cut-settled u d;
+              durable = refl;
+            };
         stopped = cut-stopped;
         neat = λ u d. cut-all-neat u (cut-ran u d .0);
       }
@@ -177,7 +183,11 @@ module _ (sum : List ℕ → ℕ) (p : ℕ) (pos : 0 < p) (v : BlobValue) (w : W
         let z = stood-here sum p u (n / p) j b (x .0) (x .1) in
         let whole = z .whole in
         record {
-          whole = whole; lasts = x .1 .lasts; here = z .here; valid = good; under = omega (arith, few (n / p * p + j) b e, split);
+          whole = whole;
+          lasts = x .1 .lasts;
+          here = z .here;
+          valid = good;
+          under = omega (arith, few (n / p * p + j) b e, split);
           firm-data = λ k l. f (start p (n / p) + k) (omega (arith, good .high));
           firm-slot = λ k l. f (start p (n / p) + (slot-start p a + k)) (omega (arith, slot-inside p a k l));
         }

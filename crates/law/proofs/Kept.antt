@@ -48,16 +48,18 @@ module _ (sum : List ℕ → ℕ) (p : ℕ) (v u : BlobValue) (promise : List Pl
     pub on-slot : (k : ℕ) → k < 6 → K (start p i + (slot-start p which + k))
 
   spared : (top : ℕ) (K : ℕ → Type 0) → Leaves v u top K
-    → ((i j b : ℕ) → j < p → getD promise (i * p + j) gap ≡ byte b → Spared top K i j b) → Guard sum p u promise
+      → ((i j b : ℕ) → j < p → getD promise (i * p + j) gap ≡ byte b → Spared top K i j b) → Guard sum p u promise
   spared top K l f i j b h e =
-    let x = f i j b h e in
-    let g = x .backed in
-    let w = x .which in
-    let below = x .below in
-    let whole = g .whole in
-    (w, carry sum p v i j b w g u (omega (arith, l .long)) (omega (arith, l .shortest, g .lasts))
-      (λ k d. l .stays (start p i + k) (omega (arith, g .valid .high)) (omega (arith, g .valid .high)) (x .on-data k d))
-      (λ k d. let q = slot-inside p w k d in l .stays (start p i + (slot-start p w + k)) (omega arith) (omega arith) (x .on-slot k d)))
+      let x = f i j b h e in
+      let g = x .backed in
+      let w = x .which in
+      let below = x .below in
+      let whole = g .whole in (
+        w,
+        carry sum p v i j b w g u (omega (arith, l .long)) (omega (arith, l .shortest, g .lasts))
+            (λ k d. l .stays (start p i + k) (omega (arith, g .valid .high)) (omega (arith, g .valid .high)) (x .on-data k d))
+            (λ k d. let q = slot-inside p w k d in l .stays (start p i + (slot-start p w + k)) (omega arith) (omega arith) (x .on-slot k d)),
+      )
 
   -- where a write is not made, and leaves all, or begins at a place that is there
   wrote-from : (o : ℕ) (bs : List ℕ) (r : Result (Unit {0}) Fault) → Wrote v o bs u r → (o ≤ length (v .shown)) ⊎ (u ≡ v)
@@ -68,7 +70,7 @@ module _ (sum : List ℕ → ℕ) (p : ℕ) (v u : BlobValue) (promise : List Pl
   -- a call that leaves every firm place
   all-left : Leaves v u (length (v .shown)) (λ _. Unit {0}) → Guard sum p v promise → Guard sum p u promise
   all-left l g = spared (length (v .shown)) (λ _. Unit {0}) l
-    (λ i j b h e. let x = g i j b h e in record { which = x .0; backed = x .1; below = x .1 .whole; on-data = λ _ _. tt; on-slot = λ _ _. tt })
+      (λ i j b h e. let x = g i j b h e in record { which = x .0; backed = x .1; below = x .1 .whole; on-data = λ _ _. tt; on-slot = λ _ _. tt })
 
   pub read-keeps : (o : ℕ) (before after : List ℕ) (r : Result (Unit {0}) Fault) → Read v o before after u r → Guard sum p v promise → Guard sum p u promise
   read-keeps o before after r d = all-left (read-leaves v u _ _ o before after r d)
@@ -79,9 +81,9 @@ module _ (sum : List ℕ → ℕ) (p : ℕ) (v u : BlobValue) (promise : List Pl
   settle-keeps (Err Failed) s d g = all-left (fails-leaves v u _ _ d) g
 
   pub resize-keeps : (m : ℕ) (r : Result (Unit {0}) Fault) → ((k b : ℕ) → getD promise k gap ≡ byte b → k < m * p)
-    → Resized v (start p m) u r → Guard sum p v promise → Guard sum p u promise
+      → Resized v (start p m) u r → Guard sum p v promise → Guard sum p u promise
   resize-keeps m r few d g = spared (start p m) (λ _. Unit {0}) (resize-leaves v u (start p m) r d)
-    (λ i j b h e.
+      (λ i j b h e.
       let x = g i j b h e in
       let f = few (i * p + j) b e in
       let l : i < m = ⊎-elim (λ y. y) (λ y. let z = mul-le m p i p y (omega arith) in absurd (omega arith)) (cases-lt i m) in
@@ -103,7 +105,9 @@ module _ (sum : List ℕ → ℕ) (p : ℕ) (v u : BlobValue) (promise : List Pl
       let y = x .1 in
       let whole = y .whole in
       record {
-        which = x .0; backed = y; below = whole;
+        which = x .0;
+        backed = y;
+        below = whole;
         on-data = λ k q. same-out v u o bs (start p i + k) from (inl (omega (arith, y .valid .high)));
         on-slot = λ k q. same-out v u o bs (start p i + (slot-start p (x .0) + k)) from (inl (omega (arith, slot-inside p (x .0) k q)));
       })
@@ -125,7 +129,11 @@ module _ (sum : List ℕ → ℕ) (p : ℕ) (v u : BlobValue) (promise : List Pl
       record {
         which = w;
         backed = record {
-          whole = z .whole; lasts = omega (arith, firm-long v s f); here = z .here; valid = good; under = omega (arith, z .covered, same);
+          whole = z .whole;
+          lasts = omega (arith, firm-long v s f);
+          here = z .here;
+          valid = good;
+          under = omega (arith, z .covered, same);
           firm-data = λ k l. f (start p c + k) (omega (arith, good .high));
           firm-slot = λ k l. f (start p c + (slot-start p w + k)) (omega (arith, slot-inside p w k l));
         };
@@ -135,7 +143,9 @@ module _ (sum : List ℕ → ℕ) (p : ℕ) (v u : BlobValue) (promise : List Pl
       }))
       (⊎-elim
       (λ q. let a = start-less p i c q in record {
-        which = x .0; backed = y; below = whole;
+        which = x .0;
+        backed = y;
+        below = whole;
         on-data = λ k l. same-out v u (start p c) bs (start p i + k) from (inl (omega (arith, y .valid .high)));
         on-slot = λ k l. same-out v u (start p c) bs (start p i + (slot-start p (x .0) + k)) from (inl (omega (arith, slot-inside p (x .0) k l)));
       })
@@ -157,18 +167,24 @@ module _ (sum : List ℕ → ℕ) (p : ℕ) (v u : BlobValue) (promise : List Pl
       (λ q. subst (λ n. Spared (length (v .shown)) (Same-byte v o bs) n j b) (sym q)
       (let z = by j b h (subst (λ n. getD promise (n * p + j) gap ≡ byte b) q e) in
       record {
-        which = w; backed = z; below = z .whole;
+        which = w;
+        backed = z;
+        below = z .whole;
         on-data = λ k l. same-out v u o bs (start p c + k) from (inl (omega (arith, z .valid .high, slot-behind p (other-slot w))));
         on-slot = λ k l. same-out v u o bs (start p c + (slot-start p w + k)) from (slots-apart p w k l (start p c) (length bs) small);
       }))
       (⊎-elim
       (λ q. let t = start-less p i c q in record {
-        which = x .0; backed = y; below = whole;
+        which = x .0;
+        backed = y;
+        below = whole;
         on-data = λ k l. same-out v u o bs (start p i + k) from (inl (omega (arith, y .valid .high)));
         on-slot = λ k l. same-out v u o bs (start p i + (slot-start p (x .0) + k)) from (inl (omega (arith, slot-inside p (x .0) k l)));
       })
       (λ q. let t = start-less p c i q in let n = slot-within p (other-slot w) in record {
-        which = x .0; backed = y; below = whole;
+        which = x .0;
+        backed = y;
+        below = whole;
         on-data = λ k l. same-out v u o bs (start p i + k) from (inr (omega arith));
         on-slot = λ k l. same-out v u o bs (start p i + (slot-start p (x .0) + k)) from (inr (omega arith));
       }))

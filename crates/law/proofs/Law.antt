@@ -49,14 +49,14 @@ last-open sum p s end (e ∷ before) call bs c (then d q l) = last-open sum p _ 
 calm-last : (before : List Event) (call : Call) (bs : List ℕ) → Calm before → Promises call → Calm (before ++ (event call accepted bs ∷ []))
 calm-last [] call bs c q = (calm-promise call q, tt)
   where
-  calm-promise : (call : Call) → Promises call → Calm-call call accepted
-  calm-promise sync q = tt
-  calm-promise (truncate n) q = tt
-  calm-promise (opening wish told) q = tt
-  calm-promise (append bytes) q = tt
-  calm-promise hand-over q = tt
-  calm-promise (page-read i) q = tt
-  calm-promise restart q = q
+    calm-promise : (call : Call) → Promises call → Calm-call call accepted
+    calm-promise sync q = tt
+    calm-promise (truncate n) q = tt
+    calm-promise (opening wish told) q = tt
+    calm-promise (append bytes) q = tt
+    calm-promise hand-over q = tt
+    calm-promise (page-read i) q = tt
+    calm-promise restart q = q
 calm-last (e ∷ before) call bs c q = (c .0, calm-last before call bs (c .1) q)
 
 -- a restart of a settled blob shows the same bytes
@@ -133,20 +133,20 @@ module _ (sum : List ℕ → ℕ) (fits : Fits-four sum) (p : ℕ) (pos : 0 < p)
   law = record {
     openings-hold = λ v h before after wish told s end l. along sum fits p pos small (begin v) end (record { log = []; promise = [] }) before after wish told s (head v h) l;
     settled-after = λ v h before call c s end l.
-      let x = to-end sum fits p pos small (begin v) end (record { log = []; promise = [] }) (before ++ (event call accepted s ∷ [])) (head v h) l in
-      let o = last-open sum p (begin v) end before call s c l in
-      let z = x .settled (o .0) in
-      (z, λ u d. restart-same (end .blob) u z d ∙ o .1);
+        let x = to-end sum fits p pos small (begin v) end (record { log = []; promise = [] }) (before ++ (event call accepted s ∷ [])) (head v h) l in
+        let o = last-open sum p (begin v) end before call s c l in
+        let z = x .settled (o .0) in
+        (z, λ u d. restart-same (end .blob) u z d ∙ o .1);
     shows-log = λ v h e before c call q s end l.
-      let o = last-open sum p (begin v) end before call s q l in
-      subst (λ y. Shows-log sum p y (account sum p (before ++ (event call accepted s ∷ [])) .log)) (o .1) (ends v h e before c call q s end l .shows (o .0));
+        let o = last-open sum p (begin v) end before call s q l in
+        subst (λ y. Shows-log sum p y (account sum p (before ++ (event call accepted s ∷ [])) .log)) (o .1) (ends v h e before c call q s end l .shows (o .0));
     tells-altered = λ one v h e before c call q s end l i j b inside covered small-byte other.
-      let o = last-open sum p (begin v) end before call s q l in
-      let x = ends v h e before c call q s end l in
-      let here = sym (o .1) in
-      subst (λ y. Tells-altered sum p y i j b) (o .1)
-      (told sum one p small (end .blob) (x .good .sound) (x .neat) i j b (subst (λ y. i < whole-pages p y) here inside) (subst (λ y. j < cover sum (page-at p y i)) here covered) small-byte
-      (λ z. other (z ∙ ap (λ y. getD y (start p i + j) 0) (o .1))));
+        let o = last-open sum p (begin v) end before call s q l in
+        let x = ends v h e before c call q s end l in
+        let here = sym (o .1) in
+        subst (λ y. Tells-altered sum p y i j b) (o .1)
+        (told sum one p small (end .blob) (x .good .sound) (x .neat) i j b (subst (λ y. i < whole-pages p y) here inside) (subst (λ y. j < cover sum (page-at p y i)) here covered) small-byte
+        (λ z. other (z ∙ ap (λ y. getD y (start p i + j) 0) (o .1))));
   }
 
 pub the-law : The-law

@@ -90,7 +90,9 @@ read-writer sum p v u None a s q g i = tt
 read-writer sum p v u (Some x) a s q g i =
     let w = x .state in
     record {
-      sound = q; guard = g; bytes = i .bytes;
+      sound = q;
+      guard = g;
+      bytes = i .bytes;
       flushed = subst (λ y. Flushed sum p y (w .page) (w .tip) (w .flushed)) (sym (s .shows)) (i .flushed);
       tracks = subst (λ y. Tracks sum p y (w .page) (w .tip) (a .log)) (sym (s .shows)) (i .tracks);
       firm = ⊎-elim (λ f. inl (firm-same v u s f)) (λ f. inr f) (i .firm);

@@ -64,10 +64,10 @@ module _ (sum : List ℕ → ℕ) (p : ℕ) (s : List ℕ) where
   unfolding pages-kept
   kept-last zero m e = absurd (omega (arith, e))
   kept-last (suc n) m e = ⊎-elim
-    (λ z. kept-last n m (sym (cond-true (eqb (cover sum (page-at p s n)) 0) (pages-kept sum p s n) (suc n) z) ∙ e))
-    (λ z. let q : n ≡ m = omega (arith, sym (cond-false (eqb (cover sum (page-at p s n)) 0) (pages-kept sum p s n) (suc n) z) ∙ e) in
+      (λ z. kept-last n m (sym (cond-true (eqb (cover sum (page-at p s n)) 0) (pages-kept sum p s n) (suc n) z) ∙ e))
+      (λ z. let q : n ≡ m = omega (arith, sym (cond-false (eqb (cover sum (page-at p s n)) 0) (pages-kept sum p s n) (suc n) z) ∙ e) in
       subst (λ k. 0 < cover sum (page-at p s k)) q (nonzero (cover sum (page-at p s n)) z))
-    (cases-bool (eqb (cover sum (page-at p s n)) 0))
+      (cases-bool (eqb (cover sum (page-at p s n)) 0))
 
   -- bytes that end with a page that isn't rejected are opened whole
   pub kept-all : (k : ℕ) → ((m : ℕ) → k ≡ suc m → 0 < cover sum (page-at p s m)) → pages-kept sum p s k ≡ k
@@ -116,14 +116,19 @@ module _ (sum : List ℕ → ℕ) (p : ℕ) (capacity : ℕ) (mark : SyncState) 
         record {
           bytes = subst Bytes (sym (t .3)) (bytes-front (a .len) (page-at p s m) (are m));
           flushed = record {
-            whole = whole; there = t .0; valid = t .1; most = c; short = t .2; under = omega (arith, n);
+            whole = whole;
+            there = t .0;
+            valid = t .1;
+            most = c;
+            short = t .2;
+            under = omega (arith, n);
             same = λ k y. sym (page-byte p s m k (omega (arith, t .2))) ∙ sym (at k y);
           };
           tracks = record {
             long = log-long sum p s m ∙ omega (arith, c, n);
             in-tip = λ k y.
-              let z : k < a .len = omega (arith, n) in
-              log-in sum p s (suc m) m k (omega arith) (omega (arith, t .2)) ∙ place-covered sum (page-at p s m) k (omega (arith, c)) ∙ ap byte (sym (at k z));
+                let z : k < a .len = omega (arith, n) in
+                log-in sum p s (suc m) m k (omega arith) (omega (arith, t .2)) ∙ place-covered sum (page-at p s m) k (omega (arith, c)) ∙ ap byte (sym (at k z));
             in-page = λ i j y z. log-in sum p s (suc m) i j (omega arith) z;
           };
           durable = refl;
@@ -176,14 +181,14 @@ module _ (p : ℕ) (s : List ℕ) (k : ℕ) (fits : start p k ≤ length s) wher
 
   pub cut-page : (m : ℕ) → m < k → page-at p (resized s (start p k)) m ≡ page-at p s m
   cut-page m h =
-    let a = start-less p m k h in
-    let x = page-long p (resized s (start p k)) m (omega (arith, cut-long)) in
-    let y = page-long p s m (omega arith) in
-    ext-getD 0 _ _ (x ∙ sym y) (λ j q. let r : j < p + 12 = omega arith in
+      let a = start-less p m k h in
+      let x = page-long p (resized s (start p k)) m (omega (arith, cut-long)) in
+      let y = page-long p s m (omega arith) in
+      ext-getD 0 _ _ (x ∙ sym y) (λ j q. let r : j < p + 12 = omega arith in
       page-byte p (resized s (start p k)) m j r ∙ cut-byte (start p m + j) (omega arith) ∙ sym (page-byte p s m j r))
     where
-    cut-byte : (n : ℕ) → n < start p k → getD (resized s (start p k)) n 0 ≡ getD s n 0
-    cut-byte n h = grind (arith, places)
+      cut-byte : (n : ℕ) → n < start p k → getD (resized s (start p k)) n 0 ≡ getD s n 0
+      cut-byte n h = grind (arith, places)
 
 -- the blob u is v cut to m whole pages
 pub record Cutted (sum : List ℕ → ℕ) (p : ℕ) (v u : BlobValue) (m : ℕ) (promise : List Place) : Type 0 where
@@ -239,19 +244,20 @@ module _ (sum : List ℕ → ℕ) (p : ℕ) (pos : 0 < p) (capacity : ℕ) (v : 
   opens u mark s f z g e same =
       let tail : (m : ℕ) → many ≡ suc m → 0 < cover sum (page-at p (u .shown) m) = λ m q. subst (λ x. 0 < cover sum x) (sym (same m (omega (arith, q)))) (last m q) in
       let log : opened-log sum p (u .shown) ≡ pages-log sum p (u .shown) many = opened-whole sum p (u .shown) many e tail in
-      let x = made sum p capacity mark (u .shown) (λ m. page-bytes p u m s) many e tail in
-      (opening sum p (u .shown) promise pos (standing-here sum p u promise g),
-      subst (λ w. Inv sum p u w (opened-log sum p (u .shown)) (opened-log sum p (u .shown))) (at-same sum p capacity mark (v .shown) (u .shown) many same)
-      (record {
-        sound = s;
-        guard = guarded sum p u (opened-log sum p (u .shown)) s f (opened-stands sum p (u .shown));
-        bytes = x .bytes;
-        flushed = x .flushed;
-        tracks = subst (λ l. Tracks sum p (u .shown) (opened-writer sum p capacity mark (u .shown) many .page) (opened-writer sum p capacity mark (u .shown) many .tip) l) (sym log) (x .tracks);
-        firm = inl f;
-        settled = λ q. z (sym (x .marked) ∙ q);
-        durable = x .durable;
-      }))
+      let x = made sum p capacity mark (u .shown) (λ m. page-bytes p u m s) many e tail in (
+        opening sum p (u .shown) promise pos (standing-here sum p u promise g),
+        subst (λ w. Inv sum p u w (opened-log sum p (u .shown)) (opened-log sum p (u .shown))) (at-same sum p capacity mark (v .shown) (u .shown) many same)
+            (record {
+              sound = s;
+              guard = guarded sum p u (opened-log sum p (u .shown)) s f (opened-stands sum p (u .shown));
+              bytes = x .bytes;
+              flushed = x .flushed;
+              tracks = subst (λ l. Tracks sum p (u .shown) (opened-writer sum p capacity mark (u .shown) many .page) (opened-writer sum p capacity mark (u .shown) many .tip) l) (sym log) (x .tracks);
+              firm = inl f;
+              settled = λ q. z (sym (x .marked) ∙ q);
+              durable = x .durable;
+            }),
+      )
 
   opens-same : (t : List ℕ) → length t ≡ start p many → ((m : ℕ) → m < many → page-at p t m ≡ page-at p (v .shown) m) → opened-log sum p t ≡ opened-log sum p (v .shown)
   unfolding opened-log
@@ -262,7 +268,7 @@ module _ (sum : List ℕ → ℕ) (p : ℕ) (pos : 0 < p) (capacity : ℕ) (v : 
   whole-opens : start p many ≡ length (v .shown) → Opens sum p v (record { ops = scan-row sum p (v .shown) all; to = opened-writer sum p capacity Dirty (v .shown) many }) promise
   whole-opens e = record {
     ran = λ u d. subst (λ y. Holds (opened-log sum p (y .shown)) promise × Inv sum p y (opened-writer sum p capacity Dirty (v .shown) many) (opened-log sum p (y .shown)) (opened-log sum p (y .shown)))
-      (sym (scan-ran sum p (v .shown) v u all d)) (opens v Dirty sound firm (λ q. let z : _≡_ {A = ℕ} 0 1 = cc in absurd (omega arith)) guard (sym e) (λ _ _. refl));
+        (sym (scan-ran sum p (v .shown) v u all d)) (opens v Dirty sound firm (λ q. let z : _≡_ {A = ℕ} 0 1 = cc in absurd (omega arith)) guard (sym e) (λ _ _. refl));
     same = λ u d. ap (λ (y : BlobValue). opened-log sum p (y .shown)) (scan-ran sum p (v .shown) v u all d);
     stopped = λ u k d. scan-stopped sum p (v .shown) v u k promise all guard d;
     neat = λ u d n. subst (λ y. All-neat sum p (y .shown)) (sym (scan-ran sum p (v .shown) v u all d)) n;
@@ -279,28 +285,31 @@ module _ (sum : List ℕ → ℕ) (p : ℕ) (pos : 0 < p) (capacity : ℕ) (v : 
       let c = b .1 .2 in
       let fixed : Settle-done (b .0) (c .0) = c .1 .1 in
       let shows : c .0 .shown ≡ resized (v .shown) (start p many) = fixed .shows ∙ cutting .shows in
-      subst (λ x. Cutted sum p v x many promise × Settled x) (sym (c .1 .2)) (record {
-        sound = c .1 .0;
-        firm = fixed .settled .firm;
-        guard = settle-keeps sum p (b .0) (c .0) promise (Ok tt) (c .1 .0) fixed (resized-guard (b .0) (Ok tt) cutting);
-        long = ap length shows ∙ cut-long p (v .shown) many inside;
-        page = λ j h. ap (λ z. page-at p z j) shows ∙ cut-page p (v .shown) many inside j h;
-      }, fixed .settled)
+      subst (λ x. Cutted sum p v x many promise × Settled x) (sym (c .1 .2)) (
+        record {
+          sound = c .1 .0;
+          firm = fixed .settled .firm;
+          guard = settle-keeps sum p (b .0) (c .0) promise (Ok tt) (c .1 .0) fixed (resized-guard (b .0) (Ok tt) cutting);
+          long = ap length shows ∙ cut-long p (v .shown) many inside;
+          page = λ j h. ap (λ z. page-at p z j) shows ∙ cut-page p (v .shown) many inside j h;
+        },
+        fixed .settled,
+      )
 
   cut-opens : Opens sum p v (record { ops = scan-row sum p (v .shown) all ++ (resizes (start p many) ∷ settles ∷ []); to = opened-writer sum p capacity Clean (v .shown) many }) promise
   cut-opens = record {
     ran = λ u d. let x = dropped u d in let y = x .0 in opens u Clean (y .sound) (y .firm) (λ _. x .1) (y .guard) (y .long) (y .page);
     same = λ u d. let x = dropped u d .0 in opens-same (u .shown) (x .long) (x .page);
     stopped = λ u k d. ⊎-elim
-      (λ z. scan-stopped sum p (v .shown) v u k promise all guard z)
-      (λ z. ⊎-elim
-      (λ y. let x = fault-stop resize-call (start p many) (λ fault. Resized v (start p many) u (Err fault)) k (y .1) in (y .0, resized-guard u (Err (x .0)) (x .1)))
-      (λ y. ⊎-elim
-      (λ x. let q = fault-stop settle-call 0 (λ fault. Settling (y .0) u (Err fault)) k (x .1) in (x .0, settle-keeps sum p (y .0) u promise (Err (q .0)) (x .0) (q .1) (resized-guard (y .0) (Ok tt) (y .1 .1))))
-      (λ x. absurd (x .1 .2))
-      (y .1 .2))
-      (subst (λ x. Carried x (resizes (start p many) ∷ settles ∷ []) u (Err k)) (scan-ran sum p (v .shown) v (z .0) all (z .1 .0)) (z .1 .1)))
-      (stopped-split v u k (scan-row sum p (v .shown) all) (resizes (start p many) ∷ settles ∷ []) d);
+        (λ z. scan-stopped sum p (v .shown) v u k promise all guard z)
+        (λ z. ⊎-elim
+        (λ y. let x = fault-stop resize-call (start p many) (λ fault. Resized v (start p many) u (Err fault)) k (y .1) in (y .0, resized-guard u (Err (x .0)) (x .1)))
+        (λ y. ⊎-elim
+        (λ x. let q = fault-stop settle-call 0 (λ fault. Settling (y .0) u (Err fault)) k (x .1) in (x .0, settle-keeps sum p (y .0) u promise (Err (q .0)) (x .0) (q .1) (resized-guard (y .0) (Ok tt) (y .1 .1))))
+        (λ x. absurd (x .1 .2))
+        (y .1 .2))
+        (subst (λ x. Carried x (resizes (start p many) ∷ settles ∷ []) u (Err k)) (scan-ran sum p (v .shown) v (z .0) all (z .1 .0)) (z .1 .1)))
+        (stopped-split v u k (scan-row sum p (v .shown) all) (resizes (start p many) ∷ settles ∷ []) d);
     neat = λ u d n. let x = dropped u d .0 in cut-neat sum p (v .shown) (u .shown) many (x .long) inside (x .page) n;
   }
 

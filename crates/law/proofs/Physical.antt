@@ -196,9 +196,9 @@ module _ (sum : List ℕ → ℕ) (fits : Fits-four sum) (p : ℕ) (small : p �
       let l : slot-of p (physical-page sum p bytes old) (new-slot old) .len ≡ length bytes = ap (λ (s : ActiveChecksum). s .len) (new-there old) in
       let a = longest sum p (physical-page sum p bytes old) long (new-slot old) (new-valid old) in
       let most : (w : Slot) → slot-of p (physical-page sum p bytes old) w .len ≤ length bytes = λ w. ⊎-elim
-          (λ e. let q = ap (λ z. slot-of p (physical-page sum p bytes old) z .len) e in omega arith)
-          (λ e. ⊎-elim (λ z. omega arith) (λ z. z .1) (other-there old o w (sym e)))
-          (one-of (new-slot old) (other-slot (new-slot old)) w refl) in
+      (λ e. let q = ap (λ z. slot-of p (physical-page sum p bytes old) z .len) e in omega arith)
+      (λ e. ⊎-elim (λ z. omega arith) (λ z. z .1) (other-there old o w (sym e)))
+      (one-of (new-slot old) (other-slot (new-slot old)) w refl) in
       ⊎-elim (λ e. omega arith) (λ z. omega (arith, z .1 .1, most (z .0))) (by-some sum p (physical-page sum p bytes old) long)
 
   -- the old slot keeps its bytes

@@ -40,7 +40,7 @@ other-twice Second = refl
 
 pub same-take : (n : ℕ) (x y : List ℕ) → n ≤ length x → n ≤ length y → ((k : ℕ) → k < n → getD y k 0 ≡ getD x k 0) → take n y ≡ take n x
 same-take n x y h g e = ext-getD 0 (take n y) (take n x) (simp length-take (omega arith))
-  (λ k d. let l : k < n = omega (arith, length-take n y) in getD-take n y k 0 l ∙ e k l ∙ sym (getD-take n x k 0 l))
+    (λ k d. let l : k < n = omega (arith, length-take n y) in getD-take n y k 0 l ∙ e k l ∙ sym (getD-take n x k 0 l))
 
 -- the six bytes of a slot
 slot-bytes-same : (w : Slot) (o : ℕ) (x y : List ℕ) → ((k : ℕ) → k < 6 → getD y (o + k) 0 ≡ getD x (o + k) 0)
@@ -61,20 +61,19 @@ module _ (p : ℕ) (x y : List ℕ) (w : Slot) (footer : (k : ℕ) → k < 6 →
 
   pub same-valid : (sum : List ℕ → ℕ) → p ≤ length x → p ≤ length y → ((k : ℕ) → k < slot-of p x w .len → getD y k 0 ≡ getD x k 0) → Valid sum p x w → Valid sum p y w
   same-valid sum h g e v =
-    let l : slot-of p y w .len ≡ slot-of p x w .len = ap (λ (s : ActiveChecksum). s .len) same-slot in
-    let c : slot-of p y w .check ≡ slot-of p x w .check = ap (λ (s : ActiveChecksum). s .check) same-slot in
-    let n = v .high in
-    record {
-      low = subst (λ m. 0 < m) (sym l) (v .low);
-      high = subst (λ m. m ≤ p) (sym l) n;
-      check = ap (λ m. sum (take m y)) l ∙ ap sum (same-take (slot-of p x w .len) x y (omega arith) (omega arith) e) ∙ v .check ∙ sym c;
-    }
+      let l : slot-of p y w .len ≡ slot-of p x w .len = ap (λ (s : ActiveChecksum). s .len) same-slot in
+      let c : slot-of p y w .check ≡ slot-of p x w .check = ap (λ (s : ActiveChecksum). s .check) same-slot in
+      let n = v .high in
+      record {
+        low = subst (λ m. 0 < m) (sym l) (v .low);
+        high = subst (λ m. m ≤ p) (sym l) n;
+        check = ap (λ m. sum (take m y)) l ∙ ap sum (same-take (slot-of p x w .len) x y (omega arith) (omega arith) e) ∙ v .check ∙ sym c;
+      }
 
 -- pages of two lists of bytes
 module _ (sum : List ℕ → ℕ) (p : ℕ) (s t : List ℕ) (i : ℕ) (w : Slot)
-  (in-s : start p i + (p + 12) ≤ length s) (in-t : start p i + (p + 12) ≤ length t)
-  (slot-same : (k : ℕ) → k < 6 → getD t (start p i + (slot-start p w + k)) 0 ≡ getD s (start p i + (slot-start p w + k)) 0) where
-
+    (in-s : start p i + (p + 12) ≤ length s) (in-t : start p i + (p + 12) ≤ length t)
+    (slot-same : (k : ℕ) → k < 6 → getD t (start p i + (slot-start p w + k)) 0 ≡ getD s (start p i + (slot-start p w + k)) 0) where
   footer : (k : ℕ) → k < 6 → getD (page-at p t i) (slot-start p w + k) 0 ≡ getD (page-at p s i) (slot-start p w + k) 0
   footer k h = let l = slot-inside p w k h in page-byte p t i (slot-start p w + k) l ∙ slot-same k h ∙ sym (page-byte p s i (slot-start p w + k) l)
 
@@ -83,4 +82,4 @@ module _ (sum : List ℕ → ℕ) (p : ℕ) (s t : List ℕ) (i : ℕ) (w : Slot
 
   pub valid-stays : ((k : ℕ) → k < slot-of p (page-at p s i) w .len → getD t (start p i + k) 0 ≡ getD s (start p i + k) 0) → Valid sum p (page-at p s i) w → Valid sum p (page-at p t i) w
   valid-stays e v = same-valid p (page-at p s i) (page-at p t i) w footer sum (omega (arith, page-long p s i in-s)) (omega (arith, page-long p t i in-t))
-    (λ k h. let l : k < p + 12 = omega (arith, v .high) in page-byte p t i k l ∙ e k h ∙ sym (page-byte p s i k l)) v
+      (λ k h. let l : k < p + 12 = omega (arith, v .high) in page-byte p t i k l ∙ e k h ∙ sym (page-byte p s i k l)) v

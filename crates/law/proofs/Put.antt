@@ -56,7 +56,7 @@ older sum fits p small v c tip (Some a) s e l =
     let less = l a refl in
     let same : take (a .len) (part p tip 0) ≡ take (a .len) (page-at p (v .shown) c)
     = same-take (a .len) (page-at p (v .shown) c) (part p tip 0) (omega (arith, e .short)) (omega arith)
-        (λ k h. part-at p tip 0 k (omega arith) ∙ ap (λ m. getD tip m 0) (omega arith) ∙ sym (page-byte p (v .shown) c k (omega (arith, e .short)) ∙ e .same k h)) in
+    (λ k h. part-at p tip 0 k (omega arith) ∙ ap (λ m. getD tip m 0) (omega arith) ∙ sym (page-byte p (v .shown) c k (omega (arith, e .short)) ∙ e .same k h)) in
     let check : sum (take (a .len) (page-at p (v .shown) c)) ≡ a .check = ap (λ m. sum (take m (page-at p (v .shown) c))) (sym n) ∙ e .valid .check ∙ q in
     record {
       low = omega (arith, e .valid .low);
@@ -66,7 +66,6 @@ older sum fits p small v c tip (Some a) s e l =
     }
 
 module _ (sum : List ℕ → ℕ) (fits : Fits-four sum) (p : ℕ) (pos : 0 < p) (small : p ≤ 65535) (tip : List ℕ) (are : Bytes tip) (n : ℕ) (some : 0 < n) (h : (k : ℕ) → k < n → k * p < length tip) where
-
   first-part : 0 < length (part p tip 0)
   first-part = omega (arith, part-long p tip 0, h 0 some)
 
@@ -136,22 +135,22 @@ module _ (sum : List ℕ → ℕ) (fits : Fits-four sum) (p : ℕ) (pos : 0 < p)
     put-tracks m log l q r = record {
       long = r .long ∙ simp length-drop (omega arith);
       in-tip = λ k a.
-        let b : k < length tip - m * p = simp length-drop at a in
-        ap (λ i. getD log i gap) (omega arith) ∙ r .in-tip (m * p + k) (omega arith) ∙ ap byte (sym (getD-drop (m * p) tip k 0));
+          let b : k < length tip - m * p = simp length-drop at a in
+          ap (λ i. getD log i gap) (omega arith) ∙ r .in-tip (m * p + k) (omega arith) ∙ ap byte (sym (getD-drop (m * p) tip k 0));
       in-page = λ i j a b. ⊎-elim
-        (λ z. r .in-page i j z b ∙ ap (λ x. page-place sum x j) (sym (put-before i z)))
-        (λ (z : c ≤ i).
+          (λ z. r .in-page i j z b ∙ ap (λ x. page-place sum x j) (sym (put-before i z)))
+          (λ (z : c ≤ i).
           let y : i ≡ c + (i - c) = omega arith in
           let d : i - c < m = omega arith in
           let u = mul-add-lt (i - c) p j m d b in
           let full : length (part p tip (i - c)) ≡ p = part-long p tip (i - c) ∙ omega (arith, mul-le (i - c + 1) p m p (omega arith) (omega arith)) in
           let g : i - c < n = omega arith in
           ap (λ x. getD log x gap) (ap (λ x. x * p + j) y ∙ (let z : (c + (i - c)) * p + j ≡ c * p + ((i - c) * p + j) = omega arith in z))
-            ∙ r .in-tip ((i - c) * p + j) (omega arith)
-            ∙ ap byte (sym (byte-at f (i - c) j g (omega arith)))
-            ∙ sym (place-covered sum (page-of sum p tip f (i - c)) j (omega (arith, cover-at f o (i - c) g)))
-            ∙ ap (λ x. page-place sum x j) (sym (ap (λ x. page-at p t x) y ∙ put-page (i - c) g)))
-        (cases-lt i c);
+          ∙ r .in-tip ((i - c) * p + j) (omega arith)
+          ∙ ap byte (sym (byte-at f (i - c) j g (omega arith)))
+          ∙ sym (place-covered sum (page-of sum p tip f (i - c)) j (omega (arith, cover-at f o (i - c) g)))
+          ∙ ap (λ x. page-place sum x j) (sym (ap (λ x. page-at p t x) y ∙ put-page (i - c) g)))
+          (cases-lt i c);
     }
 
     -- the page behind them has the rest

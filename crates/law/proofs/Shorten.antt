@@ -21,7 +21,6 @@ use Rattle.law.proofs.Verdicts.{by-some, longest}
 
 module _ (sum : List ℕ → ℕ) (fits : Fits-four sum) (p : ℕ) (small : p ≤ 65535) (s : List ℕ) (c r : ℕ) (a b : Slot) (ab : other-slot a ≡ b) (ba : other-slot b ≡ a)
     (whole : start p c + (p + 12) ≤ length s) (are : Bytes (page-at p s c)) (some : 0 < r) (less : r < p) where
-
   abbrev check : ℕ
   check = sum (take r (page-at p s c))
 
@@ -79,10 +78,11 @@ module _ (sum : List ℕ → ℕ) (fits : Fits-four sum) (p : ℕ) (small : p �
   valid2 =
       let q : slot-of p (page-at p s2 c) b .check ≡ sum (take r (page-at p s c)) = ap (λ (x : ActiveChecksum). x .check) slot2 in
       record {
-        low = omega (arith, len2); high = omega (arith, len2);
+        low = omega (arith, len2);
+        high = omega (arith, len2);
         check = ap (λ n. sum (take n (page-at p s2 c))) len2
-        ∙ ap sum (same-take r (page-at p s c) (page-at p s2 c) (omega (arith, page-long p s c whole)) (omega (arith, page-long p s2 c w2)) (λ k h. data-stays p s s2 c whole w2 same2 k (omega arith)))
-        ∙ sym q;
+            ∙ ap sum (same-take r (page-at p s c) (page-at p s2 c) (omega (arith, page-long p s c whole)) (omega (arith, page-long p s2 c w2)) (λ k h. data-stays p s s2 c whole w2 same2 k (omega arith)))
+            ∙ sym q;
       }
 
   six3 : (k : ℕ) → k < 6 → getD s3 (start p c + (slot-start p b + k)) 0 ≡ getD s2 (start p c + (slot-start p b + k)) 0

@@ -122,15 +122,15 @@ module _ (sum : List ℕ → ℕ) (p : ℕ) (pos : 0 < p) (s tip : List ℕ) (lo
   pub shows-log : (f : Option ActiveChecksum) → Flushed sum p s c tip f → Even tip f → Shows-log sum p s log
   shows-log None e v = none-left c refl
     where
-    none-left : (k : ℕ) → c ≡ k → Shows-log sum p s log
-    none-left zero q =
-        let times : c * p ≡ 0 = ap (λ x. x * p) q ∙ zero-mul p in
-        exactly sum p s pos 0 (sym e ∙ ap (start p) q) (λ i h. absurd (omega arith)) (λ m h. absurd (omega (arith, h))) log
-        (equal 0 (no-pages ∙ omega (arith, t .long, v)) (omega (arith, t .long, v)) (λ i j h _ _. absurd (omega arith)))
-    none-left (suc m) q =
-        let times : c * p ≡ (m + 1) * p = ap (λ x. x * p) (q ∙ omega arith) in
-        exactly sum p s pos (suc m) (sym e ∙ ap (start p) q) (λ i h. full-page i (omega arith)) (λ k h. omega (arith, full-page k (omega (arith, h)))) log
-        (equal (suc m) (log-long sum p s m ∙ omega (arith, full-page m (omega arith), t .long, v)) (omega (arith, t .long, v)) (λ i j h l _. t .in-page i j (omega arith) l))
+      none-left : (k : ℕ) → c ≡ k → Shows-log sum p s log
+      none-left zero q =
+          let times : c * p ≡ 0 = ap (λ x. x * p) q ∙ zero-mul p in
+          exactly sum p s pos 0 (sym e ∙ ap (start p) q) (λ i h. absurd (omega arith)) (λ m h. absurd (omega (arith, h))) log
+          (equal 0 (no-pages ∙ omega (arith, t .long, v)) (omega (arith, t .long, v)) (λ i j h _ _. absurd (omega arith)))
+      none-left (suc m) q =
+          let times : c * p ≡ (m + 1) * p = ap (λ x. x * p) (q ∙ omega arith) in
+          exactly sum p s pos (suc m) (sym e ∙ ap (start p) q) (λ i h. full-page i (omega arith)) (λ k h. omega (arith, full-page k (omega (arith, h)))) log
+          (equal (suc m) (log-long sum p s m ∙ omega (arith, full-page m (omega arith), t .long, v)) (omega (arith, t .long, v)) (λ i j h l _. t .in-page i j (omega arith) l))
   shows-log (Some a) e v =
       let n : slot-of p (page-at p s c) (a .slot) .len ≡ a .len = ap (λ (z : ActiveChecksum). z .len) (e .there) in
       exactly sum p s pos (suc c) (sym (e .whole) ∙ sym (ap (start p) (let z : suc c ≡ c + 1 = omega arith in z) ∙ start-more p c))

@@ -88,20 +88,24 @@ tracks-more : (sum : List ℕ → ℕ) (p : ℕ) (s : List ℕ) (c : ℕ) (tip b
 tracks-more sum p s c tip bs log t = record {
   long = simp (length-append, length-map) (omega (arith, t .long));
   in-tip = λ k h. ⊎-elim
-    (λ l. getD-append-left log _ gap (c * p + k) (omega (arith, t .long)) ∙ t .in-tip k l ∙ ap byte (sym (getD-append-left tip bs 0 k l)))
-    (λ (l : length tip ≤ k).
+      (λ l. getD-append-left log _ gap (c * p + k) (omega (arith, t .long)) ∙ t .in-tip k l ∙ ap byte (sym (getD-append-left tip bs 0 k l)))
+      (λ (l : length tip ≤ k).
       let a : k < length tip + length bs = simp length-append at h in
       getD-append-right log (map byte bs) (c * p + length tip) (c * p + k) gap (t .long) (omega arith)
-        ∙ getD-map byte bs (c * p + k - (c * p + length tip)) 0 gap (omega arith)
-        ∙ ap (λ n. byte (getD bs n 0)) (omega arith) ∙ ap byte (sym (getD-append-right tip bs (length tip) k 0 refl l)))
-    (cases-lt k (length tip));
+      ∙ getD-map byte bs (c * p + k - (c * p + length tip)) 0 gap (omega arith)
+      ∙ ap (λ n. byte (getD bs n 0)) (omega arith) ∙ ap byte (sym (getD-append-right tip bs (length tip) k 0 refl l)))
+      (cases-lt k (length tip));
   in-page = λ i j h l. getD-append-left log _ gap (i * p + j) (omega (arith, t .long, mul-add-lt i p j c h l)) ∙ t .in-page i j h l;
 }
 
 counts-more : (sum : List ℕ → ℕ) (p : ℕ) (s : List ℕ) (c : ℕ) (tip bs : List ℕ) (f : Option ActiveChecksum) → Flushed sum p s c tip f → Flushed sum p s c (tip ++ bs) f
 counts-more sum p s c tip bs None e = e
 counts-more sum p s c tip bs (Some a) e = record {
-  whole = e .whole; there = e .there; valid = e .valid; most = e .most; short = e .short;
+  whole = e .whole;
+  there = e .there;
+  valid = e .valid;
+  most = e .most;
+  short = e .short;
   under = simp length-append (omega (arith, e .under));
   same = λ k l. e .same k l ∙ sym (getD-append-left tip bs 0 k (omega (arith, e .under)));
 }
@@ -123,10 +127,14 @@ bytes-front n a x k = ⊎-elim
 
 pub tip-more : (sum : List ℕ → ℕ) (p : ℕ) (v : BlobValue) (w : WriterState) (bs : List ℕ) (log promise : List Place) → Bytes bs → Inv sum p v w log promise → Inv sum p v (with-tip w (w .tip ++ bs)) (log ++ map byte bs) promise
 tip-more sum p v w bs log promise are i = record {
-  sound = i .sound; guard = i .guard; bytes = bytes-more (w .tip) bs (i .bytes) are;
+  sound = i .sound;
+  guard = i .guard;
+  bytes = bytes-more (w .tip) bs (i .bytes) are;
   flushed = counts-more sum p (v .shown) (w .page) (w .tip) bs (w .flushed) (i .flushed);
   tracks = tracks-more sum p (v .shown) (w .page) (w .tip) bs log (i .tracks);
-  firm = i .firm; settled = i .settled; durable = i .durable;
+  firm = i .firm;
+  settled = i .settled;
+  durable = i .durable;
 }
 
 module _ (sum : List ℕ → ℕ) (fits : Fits-four sum) (p : ℕ) (pos : 0 < p) (small : p ≤ 65535) where
@@ -183,10 +191,10 @@ module _ (sum : List ℕ → ℕ) (fits : Fits-four sum) (p : ℕ) (pos : 0 < p)
     flush-pages zero e = subst (λ x. Kept sum p v (record { ops = []; to = x }) log promise) (sym flush-none) (none-kept sum p v w log promise i)
     flush-pages (suc n) e = record {
       ran = λ u d. subst (λ y. Inv sum p y (behind w (suc n) (drop (suc n * p) (w .tip))) log promise) (sym (d .1 .2))
-        (subst (λ x. Inv sum p (d .0) x log promise) (sym (behind-some w n (drop (suc n * p) (w .tip)))) (flush-done n e (d .0) (d .1 .0) (d .1 .1)));
+          (subst (λ x. Inv sum p (d .0) x log promise) (sym (behind-some w n (drop (suc n * p) (w .tip)))) (flush-done n e (d .0) (d .1 .0) (d .1 .1)));
       stopped = λ u k d. one-stopped sum p promise v (start p (w .page)) (physical-pages sum p (w .tip) (kept w) (suc n)) (i .guard) (flush-guard n e) u k d;
       neat = λ u d neat. subst (λ y. All-neat sum p (y .shown)) (sym (d .1 .2))
-        (put-neat sum fits p pos small (w .tip) (i .bytes) (suc n) (omega arith) (λ k l. full k (omega arith)) (v .shown) (d .0 .shown) (w .page) (w .flushed) (i .flushed) (full-older (omega arith)) (flush-shows n (d .0) (d .1 .1)) neat);
+          (put-neat sum fits p pos small (w .tip) (i .bytes) (suc n) (omega arith) (λ k l. full k (omega arith)) (v .shown) (d .0 .shown) (w .page) (w .flushed) (i .flushed) (full-older (omega arith)) (flush-shows n (d .0) (d .1 .1)) neat);
     }
 
     pub flush-kept : Kept sum p v (flush-plan sum p w) log promise

@@ -110,27 +110,27 @@ module _ (sum : List ℕ → ℕ) (fits : Fits-four sum) (p : ℕ) (pos : 0 < p)
       let row : settle-row (mark-behind (w .mark) (suc m)) ≡ settles ∷ [] = ap (λ b. settle-row (cond b (w .mark) Dirty)) (suc-nonzero m) in
       let guard : (u : BlobValue) (r : Result (Unit {0}) Fault) → Wrote v (start p (w .page)) (physical-pages sum p (w .tip) (kept w) (suc m)) u r → Guard sum p u promise
       = λ u r d. put-guard sum fits p pos small (w .tip) (i .bytes) (suc m) some h v u (w .page) (w .flushed) promise r (i .sound) (i .flushed) (firm-or sum fits p pos small v w (i .firm)) o
-        (subst (λ x. Wrote v (start p (w .page)) (physical-pages sum p (w .tip) x (suc m)) u r) keep d) (i .guard) in
+      (subst (λ x. Wrote v (start p (w .page)) (physical-pages sum p (w .tip) x (suc m)) u r) keep d) (i .guard) in
       let shown : (x : BlobValue) → x .shown ≡ overwritten (v .shown) (start p (w .page)) (physical-pages sum p (w .tip) (kept w) (suc m)) → x .shown ≡ overwritten (v .shown) (start p (w .page)) (physical-pages sum p (w .tip) (w .flushed) (suc m))
       = λ x d. subst (λ y. x .shown ≡ overwritten (v .shown) (start p (w .page)) (physical-pages sum p (w .tip) y (suc m))) keep d in
       subst (λ ops. Synced sum p v (record { ops = writes at bs ∷ ops; to = synced full slot }) log promise) (sym row)
       (record {
         ran = λ u d.
-          let y = two-ran sum p promise v at bs (i .guard) guard u [] d in
-          let z = y .1 .0 in
-          let shows = shown (y .0) (z .shows) in
-          subst (λ x. Inv sum p x (synced full slot) log log × (Settled x × Even (drop (full * p) (w .tip)) slot)) (sym (y .1 .1))
-          (at-rest (y .0) (synced full slot) (z .sound) (z .settled) (bytes-drop (full * p) (w .tip) (i .bytes)) (flushed (y .0 .shown) shows)
-          (put-tracks sum fits p pos small (w .tip) (i .bytes) (suc m) some h (v .shown) (y .0 .shown) (w .page) (w .flushed) (i .flushed) o shows full log q many (i .tracks))
-          even refl);
+            let y = two-ran sum p promise v at bs (i .guard) guard u [] d in
+            let z = y .1 .0 in
+            let shows = shown (y .0) (z .shows) in
+            subst (λ x. Inv sum p x (synced full slot) log log × (Settled x × Even (drop (full * p) (w .tip)) slot)) (sym (y .1 .1))
+            (at-rest (y .0) (synced full slot) (z .sound) (z .settled) (bytes-drop (full * p) (w .tip) (i .bytes)) (flushed (y .0 .shown) shows)
+            (put-tracks sum fits p pos small (w .tip) (i .bytes) (suc m) some h (v .shown) (y .0 .shown) (w .page) (w .flushed) (i .flushed) o shows full log q many (i .tracks))
+            even refl);
         still = λ u d.
-          let y = two-ran sum p promise v at bs (i .guard) guard u [] d in
-          subst (λ x. Guard sum p x promise) (sym (y .1 .1)) (y .1 .0 .guard);
+            let y = two-ran sum p promise v at bs (i .guard) guard u [] d in
+            subst (λ x. Guard sum p x promise) (sym (y .1 .1)) (y .1 .0 .guard);
         stopped = λ u k d. ⊎-elim (λ y. y) (λ y. absurd (y .1 .1)) (two-stopped sum p promise v at bs (i .guard) guard u k [] d);
         neat = λ u d n.
-          let y = two-ran sum p promise v at bs (i .guard) guard u [] d in
-          subst (λ x. All-neat sum p (x .shown)) (sym (y .1 .1))
-          (put-neat sum fits p pos small (w .tip) (i .bytes) (suc m) some h (v .shown) (y .0 .shown) (w .page) (w .flushed) (i .flushed) o (shown (y .0) (y .1 .0 .shows)) n);
+            let y = two-ran sum p promise v at bs (i .guard) guard u [] d in
+            subst (λ x. All-neat sum p (x .shown)) (sym (y .1 .1))
+            (put-neat sum fits p pos small (w .tip) (i .bytes) (suc m) some h (v .shown) (y .0 .shown) (w .page) (w .flushed) (i .flushed) o (shown (y .0) (y .1 .0 .shows)) n);
       })
 
   rest-yes : (f : Option ActiveChecksum) (r n : ℕ) → rest-goes n r f ≡ true → (r ≡ 0 → ⊥) × ((n ≡ 0 → ⊥) ⊎ (not-flushed f r ≡ true))
@@ -164,17 +164,17 @@ module _ (sum : List ℕ → ℕ) (fits : Fits-four sum) (p : ℕ) (pos : 0 < p)
       let x : WriterState = record { capacity = w .capacity; page = w .page; tip = w .tip; flushed = w .flushed; durable = w .flushed; mark = Clean } in
       record {
         ran = λ u d.
-          let fixed = d .1 .1 in
-          let shows = fixed .shows in
-          subst (λ z. Inv sum p z x log log × (Settled z × Even (w .tip) (w .flushed))) (sym (d .1 .2))
-          (at-rest (d .0) x (d .1 .0) (fixed .settled) (i .bytes)
-          (subst (λ t. Flushed sum p t (w .page) (w .tip) (w .flushed)) (sym shows) (i .flushed))
-          (subst (λ t. Tracks sum p t (w .page) (w .tip) log) (sym shows) (i .tracks)) even refl);
+            let fixed = d .1 .1 in
+            let shows = fixed .shows in
+            subst (λ z. Inv sum p z x log log × (Settled z × Even (w .tip) (w .flushed))) (sym (d .1 .2))
+            (at-rest (d .0) x (d .1 .0) (fixed .settled) (i .bytes)
+            (subst (λ t. Flushed sum p t (w .page) (w .tip) (w .flushed)) (sym shows) (i .flushed))
+            (subst (λ t. Tracks sum p t (w .page) (w .tip) log) (sym shows) (i .tracks)) even refl);
         still = λ u d. subst (λ z. Guard sum p z promise) (sym (d .1 .2)) (settle-keeps sum p v (d .0) promise (Ok tt) (d .1 .0) (d .1 .1) (i .guard));
         stopped = λ u k d. ⊎-elim
-          (λ z. let y = fault-stop settle-call 0 (λ fault. Settling v u (Err fault)) k (z .1) in (z .0, settle-keeps sum p v u promise (Err (y .0)) (z .0) (y .1) (i .guard)))
-          (λ z. absurd (z .1 .2))
-          d;
+            (λ z. let y = fault-stop settle-call 0 (λ fault. Settling v u (Err fault)) k (z .1) in (z .0, settle-keeps sum p v u promise (Err (y .0)) (z .0) (y .1) (i .guard)))
+            (λ z. absurd (z .1 .2))
+            d;
         neat = λ u d n. subst (λ z. All-neat sum p (z .shown)) (sym (d .1 .2)) (subst (All-neat sum p) (sym (d .1 .1 .shows)) n);
       }
   idle even Clean clean =
@@ -190,7 +190,7 @@ module _ (sum : List ℕ → ℕ) (fits : Fits-four sum) (p : ℕ) (pos : 0 < p)
   idle-with even =
       let to : synced zero (w .flushed) ≡ record { capacity = w .capacity; page = w .page; tip = w .tip; flushed = w .flushed; durable = w .flushed; mark = Clean }
       = ap (λ n. record { capacity = w .capacity; page = w .page + zero; tip = drop n (w .tip); flushed = w .flushed; durable = w .flushed; mark = Clean }) (zero-mul p)
-        ∙ ap (λ n. record { capacity = w .capacity; page = n; tip = w .tip; flushed = w .flushed; durable = w .flushed; mark = Clean }) (add-zero (w .page)) in
+      ∙ ap (λ n. record { capacity = w .capacity; page = n; tip = w .tip; flushed = w .flushed; durable = w .flushed; mark = Clean }) (add-zero (w .page)) in
       subst (λ x. Synced sum p v (record { ops = settle-row (w .mark); to = x }) log promise) (sym to) (idle even (w .mark) refl)
 
   -- a sync, by the number of pages that it writes and the slot that it leaves
@@ -214,15 +214,15 @@ module _ (sum : List ℕ → ℕ) (fits : Fits-four sum) (p : ℕ) (pos : 0 < p)
       let a = rest-yes (w .flushed) (length (w .tip) % p) (length (w .tip) / p) e in
       let h : (k : ℕ) → k < suc (length (w .tip) / p) → k * p < length (w .tip) = λ k l. ⊎-elim (λ (z : length (w .tip) % p ≡ 0). absurd (a .0 z)) (λ (z : length (w .tip) % p ≡ 0 → ⊥). omega (arith, mul-le k p (length (w .tip) / p) p (omega arith) (omega arith))) (cases-eq (length (w .tip) % p) 0) in
       let o : Older-kept sum (part p (w .tip) 0) (w .flushed) = older sum fits p small v (w .page) (w .tip) (w .flushed) (i .sound) (i .flushed)
-        (λ x q.
-        let b = flushed-short sum fits p pos small (v .shown) (w .page) (w .tip) (w .flushed) (i .flushed) x q in
-        let c = flushed-under sum fits p pos small (v .shown) (w .page) (w .tip) (w .flushed) (i .flushed) x q in
-        ⊎-elim
-        (λ (z : length (w .tip) / p ≡ 0).
-        let ne : x .len ≡ length (w .tip) % p → ⊥ = ⊎-elim (λ y. absurd (y z)) (λ y. other-yes (length (w .tip) % p) (w .flushed) y x q) (a .1) in
-        omega (arith, part-long p (w .tip) 0, ne, no-page z))
-        (λ (z : length (w .tip) / p ≡ 0 → ⊥). omega (arith, part-long p (w .tip) 0, mul-le 1 p (length (w .tip) / p) p (omega arith) (omega arith)))
-        (cases-eq (length (w .tip) / p) 0)) in
+      (λ x q.
+      let b = flushed-short sum fits p pos small (v .shown) (w .page) (w .tip) (w .flushed) (i .flushed) x q in
+      let c = flushed-under sum fits p pos small (v .shown) (w .page) (w .tip) (w .flushed) (i .flushed) x q in
+      ⊎-elim
+      (λ (z : length (w .tip) / p ≡ 0).
+      let ne : x .len ≡ length (w .tip) % p → ⊥ = ⊎-elim (λ y. absurd (y z)) (λ y. other-yes (length (w .tip) % p) (w .flushed) y x q) (a .1) in
+      omega (arith, part-long p (w .tip) 0, ne, no-page z))
+      (λ (z : length (w .tip) / p ≡ 0 → ⊥). omega (arith, part-long p (w .tip) 0, mul-le 1 p (length (w .tip) / p) p (omega arith) (omega arith)))
+      (cases-eq (length (w .tip) / p) 0)) in
       let rest : length (part p (w .tip) (length (w .tip) / p)) ≡ length (w .tip) % p = part-long p (w .tip) (length (w .tip) / p) ∙ omega arith in
       let slot : synced-slot sum p w (suc (length (w .tip) / p)) ≡ Some (rest-slot sum p w)
       = cond-false (eqb (suc (length (w .tip) / p)) 0) _ _ (suc-nonzero (length (w .tip) / p)) ∙ cond-true (rest-goes (length (w .tip) / p) (length (w .tip) % p) (w .flushed)) _ _ e in
@@ -239,16 +239,16 @@ module _ (sum : List ℕ → ℕ) (fits : Fits-four sum) (p : ℕ) (pos : 0 < p)
       cases (length (w .tip) / p) refl pages left e)
       (cases-bool (rest-goes (length (w .tip) / p) (length (w .tip) % p) (w .flushed)))
     where
-    cases : (n : ℕ) → length (w .tip) / p ≡ n → sync-pages p w ≡ n → (length (w .tip) % p ≡ 0) ⊎ ((n ≡ 0) × (not-flushed (w .flushed) (length (w .tip) % p) ≡ false)) → rest-goes (length (w .tip) / p) (length (w .tip) % p) (w .flushed) ≡ false → Synced sum p v (sync-plan sum p w) log promise
-    cases zero z pages left e = sync-as zero zero (w .flushed) z pages refl (idle-with (even-here (w .flushed) z (⊎-elim (λ y. inl y) (λ y. inr (y .1)) left) (i .flushed)))
-    cases (suc n) z pages left e =
-        let split = div-add-mod' (length (w .tip)) p in
-        let times = ap (λ x. x * p) z in
-        let r : length (w .tip) % p ≡ 0 = ⊎-elim (λ y. y) (λ y. absurd (omega (arith, y .0))) left in
-        let h : (k : ℕ) → k < suc n → k * p < length (w .tip) = λ k l. omega (arith, mul-le (k + 1) p (suc n) p (omega arith) (omega arith)) in
-        let o = full-older sum fits p pos small v w log promise i (omega arith) in
-        let slot : synced-slot sum p w (suc n) ≡ None = cond-false (eqb (suc n) 0) _ _ (suc-nonzero n) ∙ cond-false (rest-goes (length (w .tip) / p) (length (w .tip) % p) (w .flushed)) _ _ e in
-        sync-as (suc n) (suc n) None z pages slot
-        (put-settle (suc n) n None h o
-        (λ t shows. sym (put-long sum fits p pos small (w .tip) (i .bytes) (suc n) (omega arith) h (v .shown) t (w .page) (w .flushed) (i .flushed) o shows))
-        (omega arith) (omega arith) (length-drop (suc n * p) (w .tip) ∙ omega arith))
+      cases : (n : ℕ) → length (w .tip) / p ≡ n → sync-pages p w ≡ n → (length (w .tip) % p ≡ 0) ⊎ ((n ≡ 0) × (not-flushed (w .flushed) (length (w .tip) % p) ≡ false)) → rest-goes (length (w .tip) / p) (length (w .tip) % p) (w .flushed) ≡ false → Synced sum p v (sync-plan sum p w) log promise
+      cases zero z pages left e = sync-as zero zero (w .flushed) z pages refl (idle-with (even-here (w .flushed) z (⊎-elim (λ y. inl y) (λ y. inr (y .1)) left) (i .flushed)))
+      cases (suc n) z pages left e =
+          let split = div-add-mod' (length (w .tip)) p in
+          let times = ap (λ x. x * p) z in
+          let r : length (w .tip) % p ≡ 0 = ⊎-elim (λ y. y) (λ y. absurd (omega (arith, y .0))) left in
+          let h : (k : ℕ) → k < suc n → k * p < length (w .tip) = λ k l. omega (arith, mul-le (k + 1) p (suc n) p (omega arith) (omega arith)) in
+          let o = full-older sum fits p pos small v w log promise i (omega arith) in
+          let slot : synced-slot sum p w (suc n) ≡ None = cond-false (eqb (suc n) 0) _ _ (suc-nonzero n) ∙ cond-false (rest-goes (length (w .tip) / p) (length (w .tip) % p) (w .flushed)) _ _ e in
+          sync-as (suc n) (suc n) None z pages slot
+          (put-settle (suc n) n None h o
+          (λ t shows. sym (put-long sum fits p pos small (w .tip) (i .bytes) (suc n) (omega arith) h (v .shown) t (w .page) (w .flushed) (i .flushed) o shows))
+          (omega arith) (omega arith) (length-drop (suc n * p) (w .tip) ∙ omega arith))

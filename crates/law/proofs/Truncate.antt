@@ -50,14 +50,15 @@ by-active sum p page long (full b part) a t e = let q : b ≡ a = cc in subst (�
 
 module _ (sum : List ℕ → ℕ) (fits : Fits-four sum) (p : ℕ) (pos : 0 < p) (small : p ≤ 65535) (v : BlobValue) (w : WriterState) (log promise : List Place) (i : Inv sum p v w log promise)
     (firm : Firm v) (even : Even (w .tip) (w .flushed)) (n : ℕ) (less : n < size p w) (few : (q b : ℕ) → getD promise q gap ≡ byte b → q < n) (odd : 0 < n % p) where
-
   rp : n % p < p
   rp = mod-below n p pos
 
   -- the writer that is left, where the page reads as `page` and the slot b is the new one
   abbrev left : List ℕ → Slot → WriterState
   left page b = record {
-    capacity = w .capacity; page = n / p; tip = take (n % p) page;
+    capacity = w .capacity;
+    page = n / p;
+    tip = take (n % p) page;
     flushed = Some (record { slot = b; len = n % p; check = sum (take (n % p) page) });
     durable = Some (record { slot = b; len = n % p; check = sum (take (n % p) page) });
     mark = Clean;
@@ -66,7 +67,6 @@ module _ (sum : List ℕ → ℕ) (fits : Fits-four sum) (p : ℕ) (pos : 0 < p)
   -- the writes over a blob where the slot a of the page is valid, and covers n % p bytes
   module _ (x : BlobValue) (c : Cutted sum p v x (n / p + 1) promise) (a b : Slot) (ab : other-slot a ≡ b) (ba : other-slot b ≡ a)
       (good : Valid sum p (page-at p (x .shown) (n / p)) a) (r : n % p ≤ slot-of p (page-at p (x .shown) (n / p)) a .len) where
-
     whole : start p (n / p) + (p + 12) ≤ length (x .shown)
     whole = omega (arith, c .long, start-more p (n / p))
 
@@ -159,8 +159,8 @@ module _ (sum : List ℕ → ℕ) (fits : Fits-four sum) (p : ℕ) (pos : 0 < p)
         (cases-eq j (n / p)))
         (cases-lt j (n / p))
       where
-      page-in : (j : ℕ) → j < n / p → start p j + (p + 12) ≤ length (v .shown)
-      page-in j l = omega (arith, start-less p j (n / p) l, cut-inside sum p pos v w log promise i firm even n less few)
+        page-in : (j : ℕ) → j < n / p → start p j + (p + 12) ≤ length (v .shown)
+        page-in j l = omega (arith, start-less p j (n / p) l, cut-inside sum p pos v w log promise i firm even n less few)
 
     odd-inv : (u : BlobValue) → Stage sum p promise t3 u → Inv sum p u (left (page-at p (x .shown) (n / p)) b) (take n log) promise
     odd-inv u z =
@@ -171,7 +171,8 @@ module _ (sum : List ℕ → ℕ) (fits : Fits-four sum) (p : ℕ) (pos : 0 < p)
         let cov = longest sum p (page-at p (x .shown) (n / p)) lp a good in
         let there : page-at p (x .shown) (n / p) ≡ page-at p (v .shown) (n / p) = c .page (n / p) (omega arith) in
         record {
-          sound = z .sound; guard = z .guard;
+          sound = z .sound;
+          guard = z .guard;
           bytes = bytes-front (n % p) (page-at p (x .shown) (n / p)) are;
           flushed = subst (λ t. Counts sum p t (n / p) (take (n % p) (page-at p (x .shown) (n / p))) (record { slot = b; len = n % p; check = sum-now })) (sym e) (record {
             whole = sym lasting;
@@ -183,9 +184,9 @@ module _ (sum : List ℕ → ℕ) (fits : Fits-four sum) (p : ℕ) (pos : 0 < p)
             same = λ k h. S3 (start p (n / p) + k) (omega (arith, rp)) ∙ sym (getD-take (n % p) (page-at p (x .shown) (n / p)) k 0 h ∙ page-byte p (x .shown) (n / p) k (omega (arith, rp)));
           });
           tracks = subst (λ t. Tracks sum p t (n / p) (take (n % p) (page-at p (x .shown) (n / p))) (take n log)) (sym e)
-            (tracks-cut sum p pos v w log promise i firm even n less few t3 (take (n % p) (page-at p (x .shown) (n / p))) earlier lt
-            (λ k h. log-there sum p pos v w log promise i firm even n less few k h (subst (λ y. k < cover sum y) there (omega (arith, cov, r)))
-            ∙ ap byte (sym (getD-take (n % p) (page-at p (x .shown) (n / p)) k 0 h ∙ ap (λ y. getD y k 0) there))));
+              (tracks-cut sum p pos v w log promise i firm even n less few t3 (take (n % p) (page-at p (x .shown) (n / p))) earlier lt
+              (λ k h. log-there sum p pos v w log promise i firm even n less few k h (subst (λ y. k < cover sum y) there (omega (arith, cov, r)))
+              ∙ ap byte (sym (getD-take (n % p) (page-at p (x .shown) (n / p)) k 0 h ∙ ap (λ y. getD y k 0) there))));
           firm = inl (z .settled .firm);
           settled = λ _. z .settled;
           durable = refl;
@@ -208,16 +209,16 @@ module _ (sum : List ℕ → ℕ) (fits : Fits-four sum) (p : ℕ) (pos : 0 < p)
       record {
         ran = λ u d. absurd (never u d);
         stopped = λ u k d. ⊎-elim (λ y. cut-stopped sum p pos v w log promise i firm even n less few u k y)
-          (λ y.
-          let c = cutted (y .0) (y .1 .0) in
-          ⊎-elim
-          (λ z. (z .0, read-stopped u (y .0) k (c .guard) (z .1)))
-          (λ z. ⊎-elim
-          (λ q. (q .0, reject-stop (λ x. Guard sum p x promise) (z .0) u (subst (λ x. Guard sum p x promise) (sym (z .1 .1 .2)) (c .guard)) k (q .1)))
-          (λ q. absurd (q .1 .1))
-          (z .1 .2))
-          (y .1 .1))
-          (stopped-split v u k (resize-row p n w) (reads (start p (n / p)) (p + 12) ∷ rejects ∷ []) d);
+            (λ y.
+            let c = cutted (y .0) (y .1 .0) in
+            ⊎-elim
+            (λ z. (z .0, read-stopped u (y .0) k (c .guard) (z .1)))
+            (λ z. ⊎-elim
+            (λ q. (q .0, reject-stop (λ x. Guard sum p x promise) (z .0) u (subst (λ x. Guard sum p x promise) (sym (z .1 .1 .2)) (c .guard)) k (q .1)))
+            (λ q. absurd (q .1 .1))
+            (z .1 .2))
+            (y .1 .1))
+            (stopped-split v u k (resize-row p n w) (reads (start p (n / p)) (p + 12) ∷ rejects ∷ []) d);
         neat = λ u d. absurd (never u d);
       }
 
@@ -254,26 +255,26 @@ module _ (sum : List ℕ → ℕ) (fits : Fits-four sum) (p : ℕ) (pos : 0 < p)
     shorten-kept : Kept sum p v (record { ops = resize-row p n w ++ (reads (start p (n / p)) (p + 12) ∷ shorten-tail); to = left page (other-slot (a .slot)) }) (take n log) promise
     shorten-kept = record {
       ran = λ u d.
-        let y = done u d in
-        let q = ready (y .0) (y .1 .0) in
-        subst (λ z. Inv sum p u (left z (other-slot (a .slot))) (take n log) promise) (q .here)
-        (odd-inv (y .0) (q .cut) (a .slot) (other-slot (a .slot)) refl (other-twice (a .slot)) (q .good) (q .long) u
-        (shortened (y .0) (q .cut) (a .slot) (other-slot (a .slot)) refl (other-twice (a .slot)) (q .good) (q .long) u (run (y .0) q u (Ok tt) (y .1 .1))));
+          let y = done u d in
+          let q = ready (y .0) (y .1 .0) in
+          subst (λ z. Inv sum p u (left z (other-slot (a .slot))) (take n log) promise) (q .here)
+          (odd-inv (y .0) (q .cut) (a .slot) (other-slot (a .slot)) refl (other-twice (a .slot)) (q .good) (q .long) u
+          (shortened (y .0) (q .cut) (a .slot) (other-slot (a .slot)) refl (other-twice (a .slot)) (q .good) (q .long) u (run (y .0) q u (Ok tt) (y .1 .1))));
       stopped = λ u k d. ⊎-elim (λ y. cut-stopped sum p pos v w log promise i firm even n less few u k y)
-        (λ y.
-        let q = ready (y .0) (y .1 .0) in
-        let c = q .cut in
-        ⊎-elim
-        (λ z. (z .0, read-stopped u (y .0) k (c .guard) (z .1)))
-        (λ z. shorten-stopped (y .0) (q .cut) (a .slot) (other-slot (a .slot)) refl (other-twice (a .slot)) (q .good) (q .long) u k
-        (run (y .0) q u (Err k) (subst (λ x. Carried x shorten-tail u (Err k)) (z .1 .1 .2) (z .1 .2))))
-        (y .1 .1))
-        (stopped-split v u k (resize-row p n w) (reads (start p (n / p)) (p + 12) ∷ shorten-tail) d);
+          (λ y.
+          let q = ready (y .0) (y .1 .0) in
+          let c = q .cut in
+          ⊎-elim
+          (λ z. (z .0, read-stopped u (y .0) k (c .guard) (z .1)))
+          (λ z. shorten-stopped (y .0) (q .cut) (a .slot) (other-slot (a .slot)) refl (other-twice (a .slot)) (q .good) (q .long) u k
+          (run (y .0) q u (Err k) (subst (λ x. Carried x shorten-tail u (Err k)) (z .1 .1 .2) (z .1 .2))))
+          (y .1 .1))
+          (stopped-split v u k (resize-row p n w) (reads (start p (n / p)) (p + 12) ∷ shorten-tail) d);
       neat = λ u d neat.
-        let y = done u d in
-        let q = ready (y .0) (y .1 .0) in
-        let z = shortened (y .0) (q .cut) (a .slot) (other-slot (a .slot)) refl (other-twice (a .slot)) (q .good) (q .long) u (run (y .0) q u (Ok tt) (y .1 .1)) in
-        subst (All-neat sum p) (sym (z .shows)) (shorten-neat (y .0) (q .cut) (a .slot) (other-slot (a .slot)) refl (other-twice (a .slot)) (q .good) (q .long) neat);
+          let y = done u d in
+          let q = ready (y .0) (y .1 .0) in
+          let z = shortened (y .0) (q .cut) (a .slot) (other-slot (a .slot)) refl (other-twice (a .slot)) (q .good) (q .long) u (run (y .0) q u (Ok tt) (y .1 .1)) in
+          subst (All-neat sum p) (sym (z .shows)) (shorten-neat (y .0) (q .cut) (a .slot) (other-slot (a .slot)) refl (other-twice (a .slot)) (q .good) (q .long) neat);
     }
 
   odd-kept : (page : List ℕ) → page ≡ page-at p (resize-shows p n w (v .shown)) (n / p) → (act : Option ActiveChecksum) → active-of (verdict-of sum page) ≡ act

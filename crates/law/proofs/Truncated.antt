@@ -76,7 +76,7 @@ module _ (sum : List ℕ → ℕ) (fits : Fits-four sum) (p : ℕ) (pos : 0 < p)
         let to = sync-plan sum p w .to in
         record {
           ran = λ u d. subst (λ x. Inv sum p x to (take n log) (take n log) × (Settled x × Even (to .tip) (to .flushed))) (sym d)
-            (subst (λ l. Inv sum p mid to l l × (Settled mid × Even (to .tip) (to .flushed))) (sym e) after-first);
+              (subst (λ l. Inv sum p mid to l l × (Settled mid × Even (to .tip) (to .flushed))) (sym e) after-first);
           still = λ u d. subst (λ x. Guard sum p x (take n promise)) (sym d) guard-mid;
           stopped = λ u k d. absurd d;
           neat = λ u d q. subst (λ x. All-neat sum p (x .shown)) (sym d) q;
