@@ -14,19 +14,18 @@ use Rattle.blob.specs.Value.{BlobValue, Settled, Sound}
 use Rattle.page.specs.Layout.{page-at, start}
 use Rattle.page.specs.Verdict.{cover}
 use Rattle.plan.specs.Open.{whole-pages}
-use Rattle.law.specs.Events.{Call, Event, accepted, account, append, event, hand-over, opening, page-read, restart, sync, truncate}
+use Rattle.law.specs.Events.{Bytes, Call, Event, accepted, account, append, event, hand-over, opening, page-read, restart, sync, truncate}
 use Rattle.law.specs.Law.{Calm, Calm-call, Head, Law, Promises, Shows-log, Tells-altered, The-law, begin}
 use Rattle.law.specs.Lines.{Line, LineState, Step, appends, hands-over, none, opens, reads-page, restarts, syncs, then, truncates}
 use Rattle.law.specs.Log.{Place, byte, gap, opened-log, pages-log}
 use Rattle.law.proofs.Altered.{altered}
 use Rattle.law.proofs.Calm.{Whole, calm-end}
 use Rattle.law.proofs.Guard.{Guard}
-use Rattle.law.proofs.Lines.{Fine, along, to-end}
+use Rattle.law.proofs.Lines.{With-writer, Fine, along, to-end}
 use Rattle.law.proofs.Opening.{covers-few, opened-stands, page-whole}
 use Rattle.law.proofs.Places.{page-byte, page-long}
 use Rattle.law.proofs.Put.{bytes-of}
 use Rattle.law.proofs.Shows.{exactly, shows-log}
-use Rattle.law.proofs.Slots.{Bytes}
 use Rattle.law.proofs.Verdicts.{longest}
 use Rattle.law.proofs.Writer.{All-neat}
 use Rattle.law.proofs.Written.{start-zero}
@@ -132,6 +131,9 @@ module _ (sum : List ℕ → ℕ) (fits : Fits-four sum) (p : ℕ) (pos : 0 < p)
   pub law : Law sum p
   law = record {
     openings-hold = λ v h before after wish told s end l. along sum fits p pos small (begin v) end (record { log = []; promise = [] }) before after wish told s (head v h) l;
+    size-is-log = λ v h es end l w e.
+      let x = to-end sum fits p pos small (begin v) end (record { log = []; promise = [] }) es (head v h) l in
+      sym (subst (λ y. With-writer sum p (end .blob) y (account sum p es)) e (x .writer) .tracks .long);
     settled-after = λ v h before call c s end l.
         let x = to-end sum fits p pos small (begin v) end (record { log = []; promise = [] }) (before ++ (event call accepted s ∷ [])) (head v h) l in
         let o = last-open sum p (begin v) end before call s c l in

@@ -36,7 +36,7 @@ use Rattle.law.proofs.Verdicts.{longest}
 use Rattle.law.proofs.Writer.{Flushed, Inv, Tracks}
 use Rattle.law.proofs.Truncated.{truncate-stopped as truncate-over}
 
-abbrev With-writer : (List ℕ → ℕ) → ℕ → BlobValue → Option LineWriter → Account → Type 0
+abbrev pub With-writer : (List ℕ → ℕ) → ℕ → BlobValue → Option LineWriter → Account → Type 0
 With-writer sum p v None a = Unit {0}
 With-writer sum p v (Some w) a = Inv sum p v (w .state) (a .log) (a .promise)
 

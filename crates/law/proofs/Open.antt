@@ -24,6 +24,7 @@ use Rattle.paged.specs.declared.sync_state.SyncState.{SyncState}
 use Rattle.paged.specs.declared.sync_state.SyncState.the-variants.{Clean, Dirty}
 use Rattle.plan.specs.Open.{by-last, open-plan, opened-writer, pages-kept, scan-row, whole-pages}
 use Rattle.plan.specs.State.{Plan, WriterState}
+use Rattle.law.specs.Events.{Bytes}
 use Rattle.law.specs.Log.{Holds, Place, byte, full-rows, gap, opened-log, page-places, pages-log}
 use Rattle.law.proofs.Carrying.{fault-stop, ran-split, read-stop, stopped-split}
 use Rattle.law.proofs.Guard.{Firm, Guard}
@@ -31,7 +32,7 @@ use Rattle.law.proofs.Kept.{read-keeps, resize-keeps, settle-keeps}
 use Rattle.law.proofs.Opening.{kept-most, kept-over, log-in, opened-stands, opening, place-covered, places-long, row-long, whole-page}
 use Rattle.law.proofs.Places.{page-byte, page-long, start-less, start-more}
 use Rattle.law.proofs.Put.{page-bytes}
-use Rattle.law.proofs.Slots.{Bytes, Neat}
+use Rattle.law.proofs.Slots.{Neat}
 use Rattle.law.proofs.Standing.{guarded, standing-here}
 use Rattle.law.proofs.Steps.{bytes-front, nonzero}
 use Rattle.law.proofs.Verdicts.{Told, verdict-told}

@@ -20,8 +20,9 @@ use Rattle.page.specs.declared.slot.Slot.the-variants.{First, Second}
 use Rattle.flush.proofs.Rows.{page-length}
 use Rattle.flush.specs.Pages.{physical-page}
 use Rattle.plan.specs.Sync.{new-slot}
+use Rattle.law.specs.Events.{Bytes}
 use Rattle.law.proofs.Places.{other-twice, same-take}
-use Rattle.law.proofs.Slots.{Bytes, Neat, Valid, slot-of, slot-start}
+use Rattle.law.proofs.Slots.{Neat, Valid, slot-of, slot-start}
 use Rattle.law.proofs.Verdicts.{by-some, longest}
 
 -- four bytes, the highest first

@@ -23,6 +23,7 @@ use Rattle.page.specs.declared.slot.ActiveChecksum.{ActiveChecksum}
 use Rattle.flush.proofs.Rows.{part-fits}
 use Rattle.flush.specs.Pages.{first-only, page-of, part, physical-page, physical-pages}
 use Rattle.plan.specs.Sync.{new-slot}
+use Rattle.law.specs.Events.{Bytes}
 use Rattle.law.specs.Log.{Place, byte, gap, page-place}
 use Rattle.law.proofs.Altered.{bytes-take}
 use Rattle.law.proofs.Guard.{Firm, Guard}
@@ -30,7 +31,7 @@ use Rattle.law.proofs.Kept.{write-behind, write-last}
 use Rattle.law.proofs.Opening.{place-covered}
 use Rattle.law.proofs.Physical.{Older-kept, new-cover, new-neat, new-there, new-valid, old-bytes, page-data, slot-encode}
 use Rattle.law.proofs.Places.{page-byte, page-long, same-take, slot-inside, start-less, start-more}
-use Rattle.law.proofs.Slots.{Bytes, Neat, Valid, slot-of, slot-start}
+use Rattle.law.proofs.Slots.{Neat, Valid, slot-of, slot-start}
 use Rattle.law.proofs.Writer.{All-neat, Counts, Flushed, Tracks}
 use Rattle.law.proofs.Written.{after-long, all-at, all-long, page-before, page-new, part-at, part-bytes, part-long, start-add, start-zero}
 

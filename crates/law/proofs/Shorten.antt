@@ -12,11 +12,12 @@ use Rattle.page.specs.Layout.{page-at, start}
 use Rattle.page.specs.Verdict.{cover}
 use Rattle.page.specs.declared.slot.ActiveChecksum.{ActiveChecksum}
 use Rattle.page.specs.declared.slot.Slot.{Slot}
+use Rattle.law.specs.Events.{Bytes}
 use Rattle.law.proofs.Altered.{bytes-take}
 use Rattle.law.proofs.Cut.{data-stays, slot-before, slot-beside, slot-long, slot-new, slot-rest}
 use Rattle.law.proofs.Physical.{decode, one-of, slot-reads}
 use Rattle.law.proofs.Places.{page-byte, page-long, same-take, slot-inside, slot-stays, valid-stays}
-use Rattle.law.proofs.Slots.{Bytes, Neat, Valid, slot-of, slot-start}
+use Rattle.law.proofs.Slots.{Neat, Valid, slot-of, slot-start}
 use Rattle.law.proofs.Verdicts.{by-some, longest}
 
 module _ (sum : List ℕ → ℕ) (fits : Fits-four sum) (p : ℕ) (small : p ≤ 65535) (s : List ℕ) (c r : ℕ) (a b : Slot) (ab : other-slot a ≡ b) (ba : other-slot b ≡ a)

@@ -1,12 +1,12 @@
 -- The slots of a page.
-use mathlib.Core.Path.{_≡_}
 use mathlib.Core.List.{List}
 use mathlib.Core.Logic.{_⊎_}
-use Prim.Native.Nat.{ℕ, _+_, _<_, _≤_}
-use lib.ListN.{getD, take}
-use Rattle.page.specs.declared.slot.Slot.{Slot}
+use mathlib.Core.Path.{_≡_}
+use Prim.Native.Nat.{_+_, _<_, _≤_, ℕ}
+use lib.ListN.{take}
+use Rattle.page.specs.Footer.{four-at, slot-offset, two-at}
 use Rattle.page.specs.declared.slot.ActiveChecksum.{ActiveChecksum}
-use Rattle.page.specs.Footer.{slot-offset, two-at, four-at}
+use Rattle.page.specs.declared.slot.Slot.{Slot}
 
 -- where a slot begins in a page of p data bytes
 abbrev pub slot-start : ℕ → Slot → ℕ
@@ -25,7 +25,3 @@ pub record Valid (sum : List ℕ → ℕ) (p : ℕ) (page : List ℕ) (w : Slot)
 -- every slot of the page has length 0 or is valid
 abbrev pub Neat : (List ℕ → ℕ) → ℕ → List ℕ → Type 0
 Neat sum p page = (w : Slot) → (slot-of p page w .len ≡ 0) ⊎ Valid sum p page w
-
--- a string of bytes
-abbrev pub Bytes : List ℕ → Type 0
-Bytes s = (k : ℕ) → getD s k 0 < 256

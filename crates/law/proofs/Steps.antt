@@ -31,12 +31,12 @@ use Rattle.flush.specs.Write.{pages-row}
 use Rattle.plan.specs.Append.{append-plan, fill, is-direct, passes}
 use Rattle.plan.specs.Flush.{behind, flush-plan, kept, kept-by-mark}
 use Rattle.plan.specs.State.{Plan, WriterState, then-plan, with-tip}
+use Rattle.law.specs.Events.{Bytes}
 use Rattle.law.specs.Log.{Place, byte, gap}
 use Rattle.law.proofs.Carrying.{one-stopped, ran-split, stopped-split}
 use Rattle.law.proofs.Guard.{Firm, Guard}
 use Rattle.law.proofs.Physical.{Older-kept}
 use Rattle.law.proofs.Put.{older, put-guard, put-long, put-neat, put-tracks}
-use Rattle.law.proofs.Slots.{Bytes}
 use Rattle.law.proofs.Writer.{All-neat, Flushed, Inv, Tracks}
 use Rattle.law.proofs.Written.{part-long}
 

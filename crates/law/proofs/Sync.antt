@@ -30,6 +30,7 @@ use Rattle.flush.specs.Write.{pages-row}
 use Rattle.plan.specs.Flush.{kept, mark-behind}
 use Rattle.plan.specs.State.{Plan, WriterState}
 use Rattle.plan.specs.Sync.{new-slot, not-flushed, rest-goes, rest-slot, settle-row, sync-pages, sync-plan, synced-slot}
+use Rattle.law.specs.Events.{Bytes}
 use Rattle.law.specs.Log.{Place, byte, gap}
 use Rattle.law.proofs.Carrying.{fault-stop, two-ran, two-stopped}
 use Rattle.law.proofs.Guard.{Guard, Stands, Stood}
@@ -38,7 +39,6 @@ use Rattle.law.proofs.Opening.{place-byte}
 use Rattle.law.proofs.Physical.{Older-kept}
 use Rattle.law.proofs.Places.{page-byte, start-less}
 use Rattle.law.proofs.Put.{older, put-counts, put-guard, put-long, put-neat, put-tracks}
-use Rattle.law.proofs.Slots.{Bytes}
 use Rattle.law.proofs.Standing.{guarded}
 use Rattle.law.proofs.Steps.{bytes-drop, firm-or, flushed-short, flushed-under, full-older, kept-flushed, suc-nonzero}
 use Rattle.law.proofs.Writer.{All-neat, Counts, Even, Flushed, Inv, Tracks}

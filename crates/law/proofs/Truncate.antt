@@ -27,6 +27,7 @@ use Rattle.paged.specs.declared.refusal.StateRefusal.{StateRefusal}
 use Rattle.paged.specs.declared.sync_state.SyncState.the-variants.{Clean}
 use Rattle.plan.specs.State.{WriterState, size}
 use Rattle.plan.specs.Truncate.{cut-plan, pages-for, resize-row, resize-shows, shorten-ops, shorten-row, shortened-slot}
+use Rattle.law.specs.Events.{Bytes}
 use Rattle.law.specs.Log.{Place, byte, gap}
 use Rattle.law.proofs.Carrying.{Stage, ran-split, read-stop, reject-stop, stopped-split, two-ran, two-stopped}
 use Rattle.law.proofs.Cut.{cut-inside, cut-ran, cut-stopped, even-kept, log-there, page-earlier, slot-guard, tracks-cut}
@@ -36,7 +37,7 @@ use Rattle.law.proofs.Open.{Cutted}
 use Rattle.law.proofs.Places.{other-twice, page-byte, page-long, start-less, start-more}
 use Rattle.law.proofs.Put.{page-bytes}
 use Rattle.law.proofs.Shorten.{cover3, len2, long3, neat3, same3, slot1, slot3, valid1, valid2, valid3, w3}
-use Rattle.law.proofs.Slots.{Bytes, Neat, Valid, slot-of, slot-start}
+use Rattle.law.proofs.Slots.{Neat, Valid, slot-of, slot-start}
 use Rattle.law.proofs.Steps.{Kept, bytes-front, nonzero}
 use Rattle.law.proofs.Verdicts.{Told, longest, verdict-told}
 use Rattle.law.proofs.Writer.{All-neat, Counts, Even, Inv, Tracks}

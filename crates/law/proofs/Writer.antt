@@ -12,9 +12,10 @@ use Rattle.page.specs.Verdict.{cover}
 use Rattle.page.specs.declared.slot.ActiveChecksum.{ActiveChecksum}
 use Rattle.paged.specs.declared.sync_state.SyncState.the-variants.{Clean, Dirty}
 use Rattle.plan.specs.State.{WriterState}
+use Rattle.law.specs.Events.{Bytes}
 use Rattle.law.specs.Log.{Place, byte, gap, page-place}
 use Rattle.law.proofs.Guard.{Firm, Guard}
-use Rattle.law.proofs.Slots.{Bytes, Neat, Valid, slot-of}
+use Rattle.law.proofs.Slots.{Neat, Valid, slot-of}
 
 -- the flushed slot is the one that counts in the current page, and covers the first bytes of the tip
 pub record Counts (sum : List ℕ → ℕ) (p : ℕ) (s : List ℕ) (c : ℕ) (tip : List ℕ) (a : ActiveChecksum) : Type 0 where

@@ -15,8 +15,8 @@ use Rattle.page.specs.Layout.{page-at, start}
 use Rattle.page.specs.declared.slot.ActiveChecksum.{ActiveChecksum}
 use Rattle.flush.proofs.Rows.{page-of-length, pages-length, pages-split, part-fits}
 use Rattle.flush.specs.Pages.{page-of, part, physical-pages}
+use Rattle.law.specs.Events.{Bytes}
 use Rattle.law.proofs.Places.{page-byte, page-long, start-less}
-use Rattle.law.proofs.Slots.{Bytes}
 
 pub start-add : (p c k : ℕ) → start p (c + k) ≡ start p c + start p k
 unfolding start

@@ -4,18 +4,18 @@ use mathlib.Core.Bool.{Bool, true}
 use mathlib.Core.List.{List, [], _∷_, _++_, map}
 use Prim.Native.Nat.{ℕ, zero, suc, _+_, _*_, _<_, _≤_}
 use lib.ListN.{length, getD, set, take}
-use Rattle.std.specs.declared.option.Option.the-variants.{None}
+use Rattle.std.specs.declared.option.Option.the-variants.{Some, None}
 use Rattle.checks.specs.Check.{Fits-four, Tells-one}
 use Rattle.blob.specs.Value.{BlobValue, Sound, Settled}
 use Rattle.blob.specs.Calls.{Restarted}
 use Rattle.page.specs.Layout.{start, page-at}
 use Rattle.page.specs.Verdict.{rejected, verdict-of, cover}
 use Rattle.paged.specs.Rows.{Op, reads, writes, resizes, settles, rejects}
-use Rattle.plan.specs.State.{Plan}
+use Rattle.plan.specs.State.{size, Plan}
 use Rattle.plan.specs.Open.{whole-pages, open-plan}
 use Rattle.law.specs.Log.{Place, gap, byte, opened-log, Holds}
 use Rattle.law.specs.Events.{Call, opening, append, sync, truncate, hand-over, page-read, restart, Outcome, accepted, refused-input, refused-state, Event, event, Account, account}
-use Rattle.law.specs.Lines.{LineState, at, Line}
+use Rattle.law.specs.Lines.{LineWriter, LineState, at, Line}
 
 -- the line begins with a settled blob and no writer, and an opening may come
 pub record Head (v : BlobValue) : Type 0 where
@@ -98,6 +98,9 @@ pub record Law (sum : List ℕ → ℕ) (p : ℕ) : Type 0 where
   pub openings-hold : (v : BlobValue) → Head v
       → (before after : List Event) (wish told : ℕ) (s : List ℕ) (end : LineState) → Line sum p (begin v) (before ++ (event (opening wish told) accepted s ∷ after)) end
       → Holds (opened-log sum p s) (account sum p before .promise)
+  -- wherever there is a writer, its size is the log's length
+  pub size-is-log : (v : BlobValue) → Head v → (es : List Event) (end : LineState) → Line sum p (begin v) es end
+      → (w : LineWriter) → end .writer ≡ Some w → size p (w .state) ≡ length (account sum p es .log)
   -- after each accepted sync or truncation the blob is settled, and a restart shows the same bytes
   pub settled-after : (v : BlobValue) → Head v
       → (before : List Event) (call : Call) → Promises call → (s : List ℕ) (end : LineState) → Line sum p (begin v) (before ++ (event call accepted s ∷ [])) end
