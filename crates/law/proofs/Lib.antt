@@ -23,3 +23,4 @@ pub mod Truncated
 pub mod Lines
 pub mod Calm
 pub mod Law
+pub mod Example

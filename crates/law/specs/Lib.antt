@@ -2,3 +2,4 @@ pub mod Log
 pub mod Events
 pub mod Lines
 pub mod Law
+pub mod Example
