@@ -1,0 +1,6 @@
+use mathlib.Core.Path.{refl}
+use Rattle.law.proofs.Example.{example}
+use Rattle.law.proofs.worked_page.Needs as need
+
+pub returns : need.returns
+returns c = record { line = example; page = refl }

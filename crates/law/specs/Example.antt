@@ -1,0 +1,45 @@
+-- A line worked out, so that the law is seen to speak of something: pages of 4 data bytes, with the older units' sum. The bytes 1 2 3 are appended
+-- and synced, a truncation keeps two of them, and after a restart an opening shows these.
+use mathlib.Core.Path.{_≡_}
+use mathlib.Core.Bool.{true}
+use mathlib.Core.List.{List, [], _∷_}
+use Prim.Native.Nat.{ℕ}
+use lib.Dec.{ltb}
+use lib.ListN.{length}
+use Rattle.checks.specs.Older.{older-sum}
+use Rattle.blob.specs.Value.{BlobValue}
+use Rattle.law.specs.Log.{Place, byte, Holds}
+use Rattle.law.specs.Events.{opening, append, sync, truncate, restart, accepted, Event, event, account}
+use Rattle.law.specs.Lines.{LineState, Line}
+use Rattle.law.specs.Law.{Head, begin}
+
+-- a blob with room for 64 bytes whose writes settle at once
+abbrev pub through : List ℕ → BlobValue
+through s =
+    record { shown = s; ceiling = 64; firm = λ k. ltb k (length s); shortest = length s; longest = length s; power = true }
+
+-- the page with three bytes, and with two of them
+abbrev pub three : List ℕ
+three = 1 ∷ 2 ∷ 3 ∷ 0 ∷ 0 ∷ 3 ∷ 0 ∷ 0 ∷ 0 ∷ 20 ∷ 0 ∷ 0 ∷ 0 ∷ 0 ∷ 0 ∷ 0 ∷ []
+
+abbrev pub two : List ℕ
+two = 1 ∷ 2 ∷ 3 ∷ 0 ∷ 0 ∷ 0 ∷ 0 ∷ 0 ∷ 0 ∷ 0 ∷ 0 ∷ 2 ∷ 0 ∷ 0 ∷ 0 ∷ 8 ∷ []
+
+abbrev pub example-events : List Event
+example-events =
+    event (opening 8 0) accepted []
+    ∷ event (append (1 ∷ 2 ∷ 3 ∷ [])) accepted []
+    ∷ event sync accepted three
+    ∷ event (truncate 2) accepted two
+    ∷ event restart accepted two
+    ∷ event (opening 8 16) accepted two
+    ∷ []
+
+pub record Example : Type 0 where
+  pub head : Head (through [])
+  pub end : LineState
+  pub line : Line older-sum 4 (begin (through [])) example-events end
+  pub log : account older-sum 4 example-events .log ≡ byte 1 ∷ byte 2 ∷ []
+  pub promise : account older-sum 4 example-events .promise ≡ byte 1 ∷ byte 2 ∷ []
+  -- a log that lost a promised byte does not hold the promise
+  pub can-fail : Holds (byte 1 ∷ []) (byte 1 ∷ byte 2 ∷ []) → ⊥

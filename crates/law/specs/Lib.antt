@@ -1,0 +1,5 @@
+pub mod Log
+pub mod Events
+pub mod Lines
+pub mod Law
+pub mod Example
