@@ -132,8 +132,8 @@ module _ (sum : List ℕ → ℕ) (fits : Fits-four sum) (p : ℕ) (pos : 0 < p)
   law = record {
     openings-hold = λ v h before after wish told s end l. along sum fits p pos small (begin v) end (record { log = []; promise = [] }) before after wish told s (head v h) l;
     size-is-log = λ v h es end l w e.
-      let x = to-end sum fits p pos small (begin v) end (record { log = []; promise = [] }) es (head v h) l in
-      sym (subst (λ y. With-writer sum p (end .blob) y (account sum p es)) e (x .writer) .tracks .long);
+        let x = to-end sum fits p pos small (begin v) end (record { log = []; promise = [] }) es (head v h) l in
+        sym (subst (λ y. With-writer sum p (end .blob) y (account sum p es)) e (x .writer) .tracks .long);
     settled-after = λ v h before call c s end l.
         let x = to-end sum fits p pos small (begin v) end (record { log = []; promise = [] }) (before ++ (event call accepted s ∷ [])) (head v h) l in
         let o = last-open sum p (begin v) end before call s c l in
