@@ -8,6 +8,17 @@ use Rattle.drive.specs.declared.handle.Handle.the-variants.{Nobody, Recovering
 use Rattle.drive.specs.declared.answer.Answer.{Answer}
 use Rattle.drive.specs.declared.answer.Answer.the-variants.{Refused, Stopped}
 
-abbrev pub after-refusal : Refusal (Writer Recovering) → Handle × Answer
-after-refusal (Input w why) = (Held w, Refused why)
-after-refusal (State why) = (Nobody, Stopped why)
+-- what a refused call answers
+abbrev pub refusal-answer : {W : Type 0} → Refusal W → Answer
+refusal-answer (Input w why) = Refused why
+refusal-answer (State why) = Stopped why
+
+-- a refusal from the input gives the writer back, one from the state ends it
+abbrev pub handle-after : Refusal (Writer Recovering) → Handle
+handle-after (Input w why) = Held w
+handle-after (State why) = Nobody
+
+-- an opening that is refused from the input leaves the writer that there is
+abbrev pub handle-after-opening : Refusal (Unit {0}) → Handle → Handle
+handle-after-opening (Input u why) h = h
+handle-after-opening (State why) h = Nobody

@@ -3,7 +3,9 @@ ghost use mathlib.Core.Path.{_≡_};
 ghost use Rattle.std.specs.Of.Vec.{vec-len};
 ghost use Rattle.std.specs.Vec.{made};
 ghost use Rattle.drive.specs.declared.handle.Handle.the-variants.{Nobody};
+ghost use Rattle.drive.specs.declared.answer.Answer.the-variants.{NoWriter};
 ghost use Rattle.drive.specs.Rooms.{tip-room};
+ghost use Rattle.drive.specs.Turns.{handle-after-opening, refusal-answer};
 use crate::answer::Answer;
 use crate::command::Call;
 use crate::handle::Handle;
@@ -124,7 +126,10 @@ impl Desk {
     }
 
     // An opening was refused. By the state, that ends the writer.
-    fn not_opened(&mut self, refusal: Refusal<()>) -> Answer {
+    fn not_opened(&mut self, refusal: Refusal<()>) -> Answer
+        ensures handle { λ _. ⌜ now (self .exit) .handle ≡ handle-after-opening refusal (now (self .entry) .handle) ⌝ }
+        ensures answer { λ r. ⌜ r ≡ refusal-answer refusal ⌝ }
+    {
         match refusal {
             Refusal::Input((), why) => Answer::Refused(why),
             Refusal::State(why) => {
@@ -142,7 +147,9 @@ impl Desk {
         std::mem::replace(&mut self.handle, Handle::Nobody)
     }
 
-    fn append<B: Blob, C: Check>(&mut self, blob: &mut B, check: &C, bytes: &[u8]) -> Answer {
+    fn append<B: Blob, C: Check>(&mut self, blob: &mut B, check: &C, bytes: &[u8]) -> Answer
+        ensures { λ r. ⌜ (now (self .entry) .handle ≡ Nobody → r ≡ NoWriter) ⌝ }
+    {
         let Handle::Recovering(w) = self.take() else {
             return Answer::NoWriter;
         };
@@ -152,7 +159,9 @@ impl Desk {
         answer
     }
 
-    fn sync<B: Blob, C: Check>(&mut self, blob: &mut B, check: &C) -> Answer {
+    fn sync<B: Blob, C: Check>(&mut self, blob: &mut B, check: &C) -> Answer
+        ensures { λ r. ⌜ (now (self .entry) .handle ≡ Nobody → r ≡ NoWriter) ⌝ }
+    {
         let Handle::Recovering(w) = self.take() else {
             return Answer::NoWriter;
         };

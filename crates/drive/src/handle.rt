@@ -1,6 +1,6 @@
 // Who holds the writer after a call, and what the call came to.
 ghost use mathlib.Core.Path.{_≡_};
-ghost use Rattle.drive.specs.Turns.{after-refusal};
+ghost use Rattle.drive.specs.Turns.{handle-after, refusal-answer};
 use crate::answer::Answer;
 use paged::Refusal;
 use writer::Recovery;
@@ -14,7 +14,7 @@ pub enum Handle {
 
 // A refusal from the input gives the writer back; one from the state ends it.
 fn after_refusal(refusal: Refusal<Recovery>) -> (Handle, Answer)
-    ensures { λ r. ⌜ r ≡ after-refusal refusal ⌝ }
+    ensures { λ r. ⌜ r ≡ (handle-after refusal, refusal-answer refusal) ⌝ }
 {
     match refusal {
         Refusal::Input(w, why) => (Handle::Recovering(w), Answer::Refused(why)),

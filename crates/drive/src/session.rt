@@ -1,4 +1,7 @@
 // A session: the blob, the check and the writer that the lines of a script go by.
+ghost use mathlib.Core.Path.{_≡_};
+ghost use lib.ListN.{length};
+ghost use Rattle.checks.specs.Crc.{crc32c};
 use crate::answer::Answer;
 use crate::command::AnyCheck;
 use crate::command::BlobPlan;
@@ -74,7 +77,10 @@ fn call_by<B: Blob>(
     }
 }
 
-fn look_at(bytes: &[u8]) -> Look {
+fn look_at(bytes: &[u8]) -> Look
+    ensures len { λ r. ⌜ r .len ≡ length (now (bytes .entry)) ⌝ }
+    ensures crc { λ r. ⌜ r .crc ≡ crc32c (now (bytes .entry)) ⌝ }
+{
     Look {
         len: bytes.len(),
         crc: Crc32c.checksum(bytes),

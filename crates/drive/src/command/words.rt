@@ -1,8 +1,10 @@
 // The words of a line, and what a word stands for.
 ghost use mathlib.Core.Path.{_≡_};
 ghost use Prim.Native.Nat.{_<_};
+ghost use Rattle.std.specs.Of.Vec.{vec-items};
 ghost use Rattle.std.specs.Options.{Cases};
-ghost use Rattle.drive.specs.Words.{hex-digit};
+ghost use Rattle.std.specs.Vec.{made};
+ghost use Rattle.drive.specs.Words.{hex-digit, digit-code, hex-pair, hex-of};
 use crate::problem::Problem;
 use crate::problem::ProblemFromAlloc;
 use crate::problem::ProblemFromRefused;
@@ -85,6 +87,7 @@ fn decimal(word: &str) -> Result<u64, Problem> {
 fn digit(c: u8) -> Option<u8>
     ensures value { λ r. ⌜ r ≡ hex-digit c ⌝ }
     ensures small { λ r. ⌜ Cases r (Unit {0}) (λ d. d < 16) ⌝ }
+    ensures back { λ r. ⌜ Cases r (Unit {0}) (λ d. digit-code d ≡ c) ⌝ }
 {
     match c {
         b'0'..=b'9' => Some(c - b'0'),
@@ -94,24 +97,35 @@ fn digit(c: u8) -> Option<u8>
 }
 
 // The byte of two digits.
-fn byte(pair: &[u8]) -> Result<u8, Problem> {
+fn byte(pair: &[u8]) -> Result<u8, Problem>
+    ensures { λ r. ⌜ made r (λ b. hex-pair b ≡ now (pair .entry)) ⌝ }
+{
     let [high, low] = pair else {
         return Err(Problem::NotHex);
     };
-    match (digit(*high), digit(*low)) {
-        (Some(h), Some(l)) => Ok(h * 16 + l),
-        _ => Err(Problem::NotHex),
+    let (Some(h), Some(l)) = (digit(*high), digit(*low)) else {
+        return Err(Problem::NotHex);
+    };
+    Ok(h * 16 + l)
+}
+
+// The bytes of digits, two for each.
+fn hex_pairs(heap: Global, digits: &[u8]) -> Result<Vec<u8>, Problem>
+    ensures { λ r. ⌜ made r (λ v. hex-of (vec-items v) ≡ now (digits .entry)) ⌝ }
+{
+    let mut bytes = Vec::new(heap);
+    for pair in digits.chunks(2) {
+        let b = byte(pair)?;
+        bytes.push(b)?;
     }
+    Ok(bytes)
 }
 
 // The bytes of a word in lowercase hex; a dash stands for none.
 fn hex(heap: Global, word: &str) -> Result<Vec<u8>, Problem> {
-    let mut bytes = Vec::new(heap);
     if word == "-" {
-        return Ok(bytes);
+        Ok(Vec::new(heap))
+    } else {
+        hex_pairs(heap, word.as_bytes())
     }
-    for pair in word.as_bytes().chunks(2) {
-        bytes.push(byte(pair)?)?;
-    }
-    Ok(bytes)
 }
