@@ -1,4 +1,5 @@
 // A blob that is always settled: what a call writes stays, and no call fails.
+ghost use mathlib.Core.Path.{_≡_};
 ghost use mathlib.Core.List.{[]};
 ghost use Rattle.kinds.specs.Making.{Made, Fresh};
 ghost use Rattle.kinds.specs.Through.{through, through-sound};
@@ -27,6 +28,13 @@ impl WriteThrough {
     {
         let area = Area::with_bytes(heap, ceiling, bytes)?;
         Ok(WriteThrough { area })
+    }
+
+    // The shown bytes.
+    pub fn shown(&self) -> &[u8]
+        ensures { λ r. ⌜ now r ≡ through (now (self .entry)) .shown ⌝ }
+    {
+        self.area.bytes()
     }
 }
 

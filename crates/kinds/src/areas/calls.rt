@@ -65,6 +65,14 @@ impl Area {
         self.area.len() as u64
     }
 
+    // The string.
+    pub(crate) fn bytes(&self) -> &[u8]
+        ensures { λ r. ⌜ now r ≡ held (now (self .entry)) ⌝ }
+    {
+        let end = self.len as usize;
+        &self.area[0..end]
+    }
+
     // Whether the string has `n` bytes from `at` on.
     pub(crate) fn has(&self, at: u64, n: u64) -> bool
         ensures { λ r. ⌜ r ≡ leb (at + n) (length (held (now (self .entry)))) ⌝ }

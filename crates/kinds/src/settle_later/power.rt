@@ -4,6 +4,7 @@ ghost use Prim.Native.Nat.{_+_, _≤_};
 ghost use lib.ListN.{length};
 ghost use Rattle.kinds.specs.Held.{held, room};
 ghost use Rattle.kinds.specs.Cuts.{stored, Stored, Came-back};
+ghost use Rattle.kinds.specs.Later.{later};
 use super::SettleLater;
 
 // How many of `n` bytes are stored before the power goes down.
@@ -17,6 +18,13 @@ fn stored_count(cut: Option<u64>, written: u64, n: u64) -> u64
 }
 
 impl SettleLater {
+    // The shown bytes, which power has no part in.
+    pub fn shown(&self) -> &[u8]
+        ensures { λ r. ⌜ now r ≡ later (now (self .entry)) .shown ⌝ }
+    {
+        self.working.bytes()
+    }
+
     // Stores `bytes` from `offset` on, or as many of the first of them as come before the cut; then power is down.
     pub(super) fn store(&mut self, offset: u64, bytes: &[u8])
         requires { ⌜ offset ≤ length (held (now self .working)) ⌝ ∗ ⌜ offset + length (now bytes) ≤ room (now self .working) ⌝ }
