@@ -2,7 +2,7 @@
 mod parse;
 mod words;
 
-pub use parse::parse;
+pub(crate) use parse::parse;
 
 // Which check the later calls go by.
 #[derive(Clone, Copy)]
@@ -48,7 +48,7 @@ pub enum Call {
 
 impl Call {
     // The command's word.
-    pub fn word(&self) -> &'static str {
+    pub(crate) fn word(&self) -> &'static str {
         match self {
             Call::Open { .. } => "open",
             Call::Append(_) => "append",

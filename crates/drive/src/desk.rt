@@ -53,7 +53,7 @@ fn zeros(heap: Global, n: usize) -> Result<Vec<u8>, AllocError>
 }
 
 impl Desk {
-    pub fn new(heap: Global) -> Desk {
+    pub(crate) fn new(heap: Global) -> Desk {
         Desk {
             handle: Handle::Nobody,
             tip: Vec::new(heap),
@@ -62,14 +62,14 @@ impl Desk {
     }
 
     // Ends the writer.
-    pub fn leave(&mut self)
+    pub(crate) fn leave(&mut self)
         ensures { λ _. ⌜ now (self .exit) .handle ≡ Nobody ⌝ }
     {
         self.handle = Handle::Nobody;
     }
 
     // Carries out a call.
-    pub fn call<B: Blob, C: Check>(
+    pub(crate) fn call<B: Blob, C: Check>(
         &mut self,
         heap: Global,
         blob: &mut B,

@@ -33,14 +33,14 @@ fn appended(done: (Recovery, u64)) -> (Handle, Answer) {
     (Handle::Recovering(w), Answer::Appended { offset, size })
 }
 
-pub fn after_sync(result: Result<Recovery, Refusal<Recovery>>) -> (Handle, Answer) {
+pub(crate) fn after_sync(result: Result<Recovery, Refusal<Recovery>>) -> (Handle, Answer) {
     match result {
         Ok(w) => synced(w),
         Err(refusal) => after_refusal(refusal),
     }
 }
 
-pub fn after_append(result: Result<(Recovery, u64), Refusal<Recovery>>) -> (Handle, Answer) {
+pub(crate) fn after_append(result: Result<(Recovery, u64), Refusal<Recovery>>) -> (Handle, Answer) {
     match result {
         Ok(done) => appended(done),
         Err(refusal) => after_refusal(refusal),

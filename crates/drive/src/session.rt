@@ -88,7 +88,7 @@ fn look_at(bytes: &[u8]) -> Look
 }
 
 impl Session {
-    pub fn new(heap: Global) -> Session {
+    pub(crate) fn new(heap: Global) -> Session {
         Session {
             heap,
             check: AnyCheck::Crc,
@@ -99,13 +99,13 @@ impl Session {
     }
 
     // Goes by another check from now on.
-    pub fn choose(&mut self, check: AnyCheck) {
+    pub(crate) fn choose(&mut self, check: AnyCheck) {
         self.plan = None;
         self.check = check;
     }
 
     // Starts anew, with an empty blob and no writer.
-    pub fn start(&mut self, plan: BlobPlan) -> Result<(), Problem> {
+    pub(crate) fn start(&mut self, plan: BlobPlan) -> Result<(), Problem> {
         self.blob = make(self.heap, &plan, &[])?;
         self.plan = Some(plan);
         self.desk.leave();
@@ -113,7 +113,7 @@ impl Session {
     }
 
     // Gives the new blob its contents.
-    pub fn fill(&mut self, bytes: &[u8]) -> Result<(), Problem> {
+    pub(crate) fn fill(&mut self, bytes: &[u8]) -> Result<(), Problem> {
         let Some(plan) = self.plan.take() else {
             return Err(Problem::BlobNotNew);
         };
@@ -121,7 +121,7 @@ impl Session {
         Ok(())
     }
 
-    pub fn call(&mut self, call: &Call) -> Result<Answer, Problem> {
+    pub(crate) fn call(&mut self, call: &Call) -> Result<Answer, Problem> {
         self.plan = None;
         match &mut self.blob {
             AnyBlob::Unmade => Err(Problem::NoBlob),
@@ -131,7 +131,7 @@ impl Session {
     }
 
     // What the blob shows, with power or without.
-    pub fn look(&self) -> Look {
+    pub(crate) fn look(&self) -> Look {
         match &self.blob {
             AnyBlob::Unmade => look_at(&[]),
             AnyBlob::Through(blob) => look_at(blob.shown()),

@@ -13,7 +13,7 @@ fn lift(number: u32, start: u32, seconds: u32, load: u32, height: u32) -> Lift {
 }
 
 // The lifts of the first two days in service.
-pub fn lifts() -> [Lift; 15] {
+pub(crate) fn lifts() -> [Lift; 15] {
     [
         lift(1, 25_200, 940, 1_250, 4_200),
         lift(2, 27_930, 1_815, 3_200, 6_750),

@@ -24,7 +24,7 @@ impl Summary {
     };
 
     // The summary of a list of lifts.
-    pub fn of(lifts: &[Lift]) -> Summary
+    pub(crate) fn of(lifts: &[Lift]) -> Summary
         ensures { λ r. ⌜ r ≡ summary-of (now (lifts .entry)) ⌝ }
     {
         let mut summary = Summary::NOTHING;
@@ -35,7 +35,7 @@ impl Summary {
     }
 
     // The summary with one lift more.
-    pub fn with(self, lift: Lift) -> Summary
+    pub(crate) fn with(self, lift: Lift) -> Summary
         ensures { λ r. ⌜ r ≡ counted self lift ⌝ }
     {
         Summary {

@@ -8,7 +8,7 @@ use crate::problem::Problem;
 use std::alloc::Global;
 
 // The command of a line.
-pub fn parse(heap: Global, line: &str) -> Result<Command, Problem> {
+pub(crate) fn parse(heap: Global, line: &str) -> Result<Command, Problem> {
     if line.starts_with('#') {
         return Ok(Command::Skip);
     }

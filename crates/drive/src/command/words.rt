@@ -18,31 +18,31 @@ pub struct Words<'a> {
 }
 
 impl<'a> Words<'a> {
-    pub fn of(line: &'a str) -> Words<'a> {
+    pub(crate) fn of(line: &'a str) -> Words<'a> {
         Words {
             rest: line.split_whitespace(),
         }
     }
 
     // The next word, which may be missing.
-    pub fn first(&mut self) -> Option<&'a str> {
+    pub(crate) fn first(&mut self) -> Option<&'a str> {
         self.rest.next()
     }
 
     // The next word.
-    pub fn word(&mut self) -> Result<&'a str, Problem> {
+    pub(crate) fn word(&mut self) -> Result<&'a str, Problem> {
         match self.rest.next() {
             Some(word) => Ok(word),
             None => Err(Problem::TooFewWords),
         }
     }
 
-    pub fn number(&mut self) -> Result<u64, Problem> {
+    pub(crate) fn number(&mut self) -> Result<u64, Problem> {
         decimal(self.word()?)
     }
 
     // A number that a page size may be.
-    pub fn page_size(&mut self) -> Result<u16, Problem> {
+    pub(crate) fn page_size(&mut self) -> Result<u16, Problem> {
         match u16::try_from(self.number()?) {
             Ok(n) => Ok(n),
             Err(_) => Err(Problem::NotANumber),
@@ -50,7 +50,7 @@ impl<'a> Words<'a> {
     }
 
     // A number, or none where the word is this one.
-    pub fn number_or(&mut self, none: &str) -> Result<Option<u64>, Problem> {
+    pub(crate) fn number_or(&mut self, none: &str) -> Result<Option<u64>, Problem> {
         let word = self.word()?;
         if word == none {
             Ok(None)
@@ -59,12 +59,12 @@ impl<'a> Words<'a> {
         }
     }
 
-    pub fn bytes(&mut self, heap: Global) -> Result<Vec<u8>, Problem> {
+    pub(crate) fn bytes(&mut self, heap: Global) -> Result<Vec<u8>, Problem> {
         hex(heap, self.word()?)
     }
 
     // Holds that no word is left.
-    pub fn end(&mut self) -> Result<(), Problem> {
+    pub(crate) fn end(&mut self) -> Result<(), Problem> {
         match self.rest.next() {
             None => Ok(()),
             Some(_) => Err(Problem::TooManyWords),
