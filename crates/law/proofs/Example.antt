@@ -28,7 +28,7 @@ use Rattle.law.specs.Events.{Bytes, accepted, append, opening, restart, sync, 
 use Rattle.law.specs.Example.{Example, three, through, two}
 use Rattle.law.specs.Law.{begin}
 use Rattle.law.specs.Lines.{Step, appends, at, held, none, opens, recovering, restarts, syncs, then, truncates}
-use Rattle.law.specs.Log.{full-rows, opened-log, page-place, page-places, pages-log}
+use Rattle.law.specs.Log.{byte, full-rows, opened-log, page-place, page-places, pages-log}
 
 -- bytes that can be looked through
 small : List ℕ → Bool
@@ -161,5 +161,8 @@ example = record {
   line = then step-open sound-none (then step-append sound-none (then step-sync sound-three (then step-truncate sound-two (then step-restart sound-two (then step-reopen sound-two none)))));
   log = refl;
   promise = refl;
-  can-fail = λ h. let e = h 1 2 refl in let z : _≡_ {A = ℕ} 0 1 = cc in omega arith;
+  holds-can-fail = λ h. let e = h 1 2 refl in let z : _≡_ {A = ℕ} 0 1 = cc in omega arith;
+  shows-can-fail = λ h. let e : byte 1 ∷ byte 2 ∷ [] ≡ byte 1 ∷ byte 2 ∷ byte 3 ∷ [] = h .opened in let z : _≡_ {A = ℕ} 0 1 = cc in omega arith;
+  altered-can-fail = λ h. let e : 3 ≤ 0 = h .uncovered in omega arith;
+  settled-can-fail = λ h. let e = h .shortest in omega arith;
 }

@@ -1,17 +1,17 @@
 -- A line worked out, so that the law is seen to speak of something: pages of 4 data bytes, with the older units' sum. The bytes 1 2 3 are appended
 -- and synced, a truncation keeps two of them, and after a restart an opening shows these.
 use mathlib.Core.Path.{_≡_}
-use mathlib.Core.Bool.{true}
+use mathlib.Core.Bool.{true, false}
 use mathlib.Core.List.{List, [], _∷_}
 use Prim.Native.Nat.{ℕ}
 use lib.Dec.{ltb}
 use lib.ListN.{length}
 use Rattle.checks.specs.Older.{older-sum}
-use Rattle.blob.specs.Value.{BlobValue}
+use Rattle.blob.specs.Value.{BlobValue, Settled}
 use Rattle.law.specs.Log.{Place, byte, Holds}
 use Rattle.law.specs.Events.{opening, append, sync, truncate, restart, accepted, Event, event, account}
 use Rattle.law.specs.Lines.{LineState, Line}
-use Rattle.law.specs.Law.{Head, begin}
+use Rattle.law.specs.Law.{Head, begin, Shows-log, Tells-altered}
 
 -- a blob with room for 64 bytes whose writes settle at once
 abbrev pub through : List ℕ → BlobValue
@@ -41,5 +41,9 @@ pub record Example : Type 0 where
   pub line : Line older-sum 4 (begin (through [])) example-events end
   pub log : account older-sum 4 example-events .log ≡ byte 1 ∷ byte 2 ∷ []
   pub promise : account older-sum 4 example-events .promise ≡ byte 1 ∷ byte 2 ∷ []
-  -- a log that lost a promised byte does not hold the promise
-  pub can-fail : Holds (byte 1 ∷ []) (byte 1 ∷ byte 2 ∷ []) → ⊥
+  -- each part of the law can fail: a promised byte is lost, a byte of the log isn't on the pages, a constant check doesn't tell an altered byte,
+  -- and a cut may take what isn't firm
+  pub holds-can-fail : Holds (byte 1 ∷ []) (byte 1 ∷ byte 2 ∷ []) → ⊥
+  pub shows-can-fail : Shows-log older-sum 4 two (byte 1 ∷ byte 2 ∷ byte 3 ∷ []) → ⊥
+  pub altered-can-fail : Tells-altered (λ s. 0) 4 (1 ∷ 2 ∷ 3 ∷ 0 ∷ 0 ∷ 3 ∷ 0 ∷ 0 ∷ 0 ∷ 0 ∷ 0 ∷ 0 ∷ 0 ∷ 0 ∷ 0 ∷ 0 ∷ []) 0 0 9 → ⊥
+  pub settled-can-fail : Settled (record { shown = 1 ∷ []; ceiling = 64; firm = λ k. false; shortest = 0; longest = 1; power = true }) → ⊥
