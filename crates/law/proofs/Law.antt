@@ -44,6 +44,11 @@ last-open : (sum : List ℕ → ℕ) (p : ℕ) (s end : LineState) (before : Lis
 last-open sum p s end [] call bs c (then d q none) = (promises-open c d, refl)
 last-open sum p s end (e ∷ before) call bs c (then d q l) = last-open sum p _ end before call bs c l
 
+-- a line that ends with an event of a line
+shorter : (sum : List ℕ → ℕ) (p : ℕ) (before after : List Event) (e : Event) (s end : LineState) → Line sum p s (before ++ (e ∷ after)) end → (mid : LineState) × Line sum p s (before ++ (e ∷ [])) mid
+shorter sum p [] after e s end (then {t = t} d q l) = (t, then d q none)
+shorter sum p (x ∷ before) after e s end (then {t = t} d q l) = let y = shorter sum p before after e t end l in (y .0, then d q (y .1))
+
 -- calm to the end
 calm-last : (before : List Event) (call : Call) (bs : List ℕ) → Calm before → Promises call → Calm (before ++ (event call accepted bs ∷ []))
 calm-last [] call bs c q = (calm-promise call q, tt)
@@ -139,16 +144,18 @@ module _ (sum : List ℕ → ℕ) (fits : Fits-four sum) (p : ℕ) (pos : 0 < p)
         let o = last-open sum p (begin v) end before call s c l in
         let z = x .settled (o .0) in
         (z, λ u d. restart-same (end .blob) u z d ∙ o .1);
-    shows-log = λ v h e before c call q s end l.
-        let o = last-open sum p (begin v) end before call s q l in
-        subst (λ y. Shows-log sum p y (account sum p (before ++ (event call accepted s ∷ [])) .log)) (o .1) (ends v h e before c call q s end l .shows (o .0));
-    tells-altered = λ one v h e before c call q s end l i j b inside covered small-byte other.
-        let o = last-open sum p (begin v) end before call s q l in
-        let x = ends v h e before c call q s end l in
-        let here = sym (o .1) in
-        subst (λ y. Tells-altered sum p y i j b) (o .1)
-        (told sum one p small (end .blob) (x .good .sound) (x .neat) i j b (subst (λ y. i < whole-pages p y) here inside) (subst (λ y. j < cover sum (page-at p y i)) here covered) small-byte
-        (λ z. other (z ∙ ap (λ y. getD y (start p i + j) 0) (o .1))));
+    shows-log = λ v h e before after c call q s end l.
+      let x = shorter sum p before after (event call accepted s) (begin v) end l in
+      let o = last-open sum p (begin v) (x .0) before call s q (x .1) in
+      subst (λ y. Shows-log sum p y (account sum p (before ++ (event call accepted s ∷ [])) .log)) (o .1) (ends v h e before c call q s (x .0) (x .1) .shows (o .0));
+    tells-altered = λ one v h e before after c call q s end l i j b inside covered small-byte other.
+      let x = shorter sum p before after (event call accepted s) (begin v) end l in
+      let o = last-open sum p (begin v) (x .0) before call s q (x .1) in
+      let y = ends v h e before c call q s (x .0) (x .1) in
+      let here = sym (o .1) in
+      subst (λ z. Tells-altered sum p z i j b) (o .1)
+      (told sum one p small (x .0 .blob) (y .good .sound) (y .neat) i j b (subst (λ z. i < whole-pages p z) here inside) (subst (λ z. j < cover sum (page-at p z i)) here covered) small-byte
+      (λ z. other (z ∙ ap (λ y. getD y (start p i + j) 0) (o .1))));
   }
 
 pub the-law : The-law

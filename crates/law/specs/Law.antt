@@ -105,13 +105,13 @@ pub record Law (sum : List ℕ → ℕ) (p : ℕ) : Type 0 where
   pub settled-after : (v : BlobValue) → Head v
       → (before : List Event) (call : Call) → Promises call → (s : List ℕ) (end : LineState) → Line sum p (begin v) (before ++ (event call accepted s ∷ [])) end
       → Settled (end .blob) × ((u : BlobValue) → Restarted (end .blob) u → u .shown ≡ s)
-  -- from an empty blob, in a calm line, each accepted sync or truncation leaves bytes that are exactly the log
+  -- from an empty blob, up to where the line is calm, each accepted sync or truncation leaves bytes that are exactly the log
   pub shows-log : (v : BlobValue) → Head v → v .shown ≡ []
-      → (before : List Event) → Calm before → (call : Call) → Promises call → (s : List ℕ) (end : LineState) → Line sum p (begin v) (before ++ (event call accepted s ∷ [])) end
+      → (before after : List Event) → Calm before → (call : Call) → Promises call → (s : List ℕ) (end : LineState) → Line sum p (begin v) (before ++ (event call accepted s ∷ after)) end
       → Shows-log sum p s (account sum p (before ++ (event call accepted s ∷ [])) .log)
   -- and a covered byte of those that is altered to any other is told
   pub tells-altered : Tells-one sum → (v : BlobValue) → Head v → v .shown ≡ []
-      → (before : List Event) → Calm before → (call : Call) → Promises call → (s : List ℕ) (end : LineState) → Line sum p (begin v) (before ++ (event call accepted s ∷ [])) end
+      → (before after : List Event) → Calm before → (call : Call) → Promises call → (s : List ℕ) (end : LineState) → Line sum p (begin v) (before ++ (event call accepted s ∷ after)) end
       → (i j b : ℕ) → i < whole-pages p s → j < cover sum (page-at p s i) → b < 256 → (b ≡ getD s (start p i + j) 0 → ⊥)
       → Tells-altered sum p s i j b
 
