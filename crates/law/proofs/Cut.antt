@@ -206,9 +206,6 @@ module _ (p : ℕ) (s : List ℕ) (c : ℕ) (a : Slot) (bs : List ℕ) (few : le
   pub slot-before : (k : ℕ) → k < start p c + p → getD (overwritten s (start p c + slot-start p a) bs) k 0 ≡ getD s k 0
   slot-before k h = over-out s (start p c + slot-start p a) bs from k (inl (omega (arith, slot-behind p a)))
 
-  pub slot-after : (k : ℕ) → start p c + (p + 12) ≤ k → getD (overwritten s (start p c + slot-start p a) bs) k 0 ≡ getD s k 0
-  slot-after k h = over-out s (start p c + slot-start p a) bs from k (inr (omega (arith, slot-within p a)))
-
   pub slot-beside : (b : Slot) → other-slot b ≡ a → (k : ℕ) → k < 6 → getD (overwritten s (start p c + slot-start p a) bs) (start p c + (slot-start p b + k)) 0 ≡ getD s (start p c + (slot-start p b + k)) 0
   slot-beside b e k h = over-out s (start p c + slot-start p a) bs from (start p c + (slot-start p b + k))
       (subst (λ x. (start p c + (slot-start p b + k) < start p c + slot-start p x) ⊎ (start p c + slot-start p x + length bs ≤ start p c + (slot-start p b + k))) e (slots-apart p b k h (start p c) (length bs) few))

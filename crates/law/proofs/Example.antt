@@ -135,16 +135,56 @@ step-sync = syncs {v = through []} {u = through three} {phase = recovering} {w =
 
 step-truncate : Step older-sum 4 (at (through three) (held recovering synced) true) (truncate 2) accepted (at (through two) (held recovering shortened) true)
 unfolding start page-at cover part sync-plan cut-plan behind-sync
-step-truncate = truncates {v = through three} {u = through two} {w = synced} {to = shortened} {m = true} {n = 2}
-    (through three, (refl,
-    (through three, (sound-three, (omega arith, refl, refl),
-    (through first, (sound-first, written three 10 (0 ∷ 0 ∷ 0 ∷ 0 ∷ 0 ∷ 8 ∷ []) (omega arith) (omega arith),
-    (through first, (sound-first, settles first,
-    (through second, (sound-second, written first 10 (0 ∷ 2 ∷ []) (omega arith) (omega arith),
-    (through second, (sound-second, settles second,
-    (through two, (sound-two, written second 4 (0 ∷ 0 ∷ 0 ∷ 0 ∷ 0 ∷ 0 ∷ []) (omega arith) (omega arith),
-    (through two, (sound-two, settles two, refl)))))))))))))),
-    refl))
+step-truncate = truncates {v = through three} {u = through two} {w = synced} {to = shortened} {m = true} {n = 2} (
+  through three,
+  (
+    refl,
+    (
+      through three,
+      (
+        sound-three,
+        (omega arith, refl, refl),
+        (
+          through first,
+          (
+            sound-first,
+            written three 10 (0 ∷ 0 ∷ 0 ∷ 0 ∷ 0 ∷ 8 ∷ []) (omega arith) (omega arith),
+            (
+              through first,
+              (
+                sound-first,
+                settles first,
+                (
+                  through second,
+                  (
+                    sound-second,
+                    written first 10 (0 ∷ 2 ∷ []) (omega arith) (omega arith),
+                    (
+                      through second,
+                      (
+                        sound-second,
+                        settles second,
+                        (
+                          through two,
+                          (
+                            sound-two,
+                            written second 4 (0 ∷ 0 ∷ 0 ∷ 0 ∷ 0 ∷ 0 ∷ []) (omega arith) (omega arith),
+                            (through two, (sound-two, settles two, refl)),
+                          ),
+                        ),
+                      ),
+                    ),
+                  ),
+                ),
+              ),
+            ),
+          ),
+        ),
+      ),
+    ),
+    refl,
+  ),
+)
 
 step-restart : Step older-sum 4 (at (through two) (held recovering shortened) true) restart accepted (at (through two) None true)
 step-restart = restarts {v = through two} {u = through two} {w = held recovering shortened} {m = true} (restarted two)

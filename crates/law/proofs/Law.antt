@@ -137,25 +137,25 @@ module _ (sum : List ℕ → ℕ) (fits : Fits-four sum) (p : ℕ) (pos : 0 < p)
   law = record {
     openings-hold = λ v h before after wish told s end l. along sum fits p pos small (begin v) end (record { log = []; promise = [] }) before after wish told s (head v h) l;
     size-is-log = λ v h es end l w e.
-      let x = to-end sum fits p pos small (begin v) end (record { log = []; promise = [] }) es (head v h) l in
-      sym (subst (λ y. With-writer sum p (end .blob) y (account sum p es)) e (x .writer) .tracks .long);
+        let x = to-end sum fits p pos small (begin v) end (record { log = []; promise = [] }) es (head v h) l in
+        sym (subst (λ y. With-writer sum p (end .blob) y (account sum p es)) e (x .writer) .tracks .long);
     settled-after = λ v h before call c s end l.
         let x = to-end sum fits p pos small (begin v) end (record { log = []; promise = [] }) (before ++ (event call accepted s ∷ [])) (head v h) l in
         let o = last-open sum p (begin v) end before call s c l in
         let z = x .settled (o .0) in
         (z, λ u d. restart-same (end .blob) u z d ∙ o .1);
     shows-log = λ v h e before after c call q s end l.
-      let x = shorter sum p before after (event call accepted s) (begin v) end l in
-      let o = last-open sum p (begin v) (x .0) before call s q (x .1) in
-      subst (λ y. Shows-log sum p y (account sum p (before ++ (event call accepted s ∷ [])) .log)) (o .1) (ends v h e before c call q s (x .0) (x .1) .shows (o .0));
+        let x = shorter sum p before after (event call accepted s) (begin v) end l in
+        let o = last-open sum p (begin v) (x .0) before call s q (x .1) in
+        subst (λ y. Shows-log sum p y (account sum p (before ++ (event call accepted s ∷ [])) .log)) (o .1) (ends v h e before c call q s (x .0) (x .1) .shows (o .0));
     tells-altered = λ one v h e before after c call q s end l i j b inside covered small-byte other.
-      let x = shorter sum p before after (event call accepted s) (begin v) end l in
-      let o = last-open sum p (begin v) (x .0) before call s q (x .1) in
-      let y = ends v h e before c call q s (x .0) (x .1) in
-      let here = sym (o .1) in
-      subst (λ z. Tells-altered sum p z i j b) (o .1)
-      (told sum one p small (x .0 .blob) (y .good .sound) (y .neat) i j b (subst (λ z. i < whole-pages p z) here inside) (subst (λ z. j < cover sum (page-at p z i)) here covered) small-byte
-      (λ z. other (z ∙ ap (λ y. getD y (start p i + j) 0) (o .1))));
+        let x = shorter sum p before after (event call accepted s) (begin v) end l in
+        let o = last-open sum p (begin v) (x .0) before call s q (x .1) in
+        let y = ends v h e before c call q s (x .0) (x .1) in
+        let here = sym (o .1) in
+        subst (λ z. Tells-altered sum p z i j b) (o .1)
+        (told sum one p small (x .0 .blob) (y .good .sound) (y .neat) i j b (subst (λ z. i < whole-pages p z) here inside) (subst (λ z. j < cover sum (page-at p z i)) here covered) small-byte
+        (λ z. other (z ∙ ap (λ y. getD y (start p i + j) 0) (o .1))));
   }
 
 pub the-law : The-law

@@ -22,9 +22,6 @@ abbrev pub Byte-stays : BlobValue → BlobValue → ℕ → Type 0
 Byte-stays v u k = v .firm k ≡ true → (getD (u .shown) k 0 ≡ getD (v .shown) k 0) × (u .firm k ≡ true)
 
 module _ (sum : List ℕ → ℕ) (p : ℕ) (v : BlobValue) (i j b : ℕ) (w : Slot) (g : Backed sum p v i j b w) where
-  n : ℕ
-  n = slot-of p (page-at p (v .shown) i) w .len
-
   -- other bytes that agree at the firm places
   pub stood-by : (t : List ℕ) → start p i + (p + 12) ≤ length t → ((k : ℕ) → v .firm k ≡ true → getD t k 0 ≡ getD (v .shown) k 0) → Stood sum p t i j b
   stood-by t l e =

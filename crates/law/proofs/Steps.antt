@@ -37,7 +37,7 @@ use Rattle.law.proofs.Carrying.{one-stopped, ran-split, stopped-split}
 use Rattle.law.proofs.Guard.{Firm, Guard}
 use Rattle.law.proofs.Physical.{Older-kept}
 use Rattle.law.proofs.Put.{older, put-guard, put-long, put-neat, put-tracks}
-use Rattle.law.proofs.Writer.{All-neat, Flushed, Inv, Tracks}
+use Rattle.law.proofs.Writer.{All-neat, Counts, Flushed, Inv, Tracks}
 use Rattle.law.proofs.Written.{part-long}
 
 -- a plan that keeps the invariant where it is carried out, and the guard where it stops
@@ -137,16 +137,13 @@ tip-more sum p v w bs log promise are i = record {
   durable = i .durable;
 }
 
+pub firm-or : (v : BlobValue) (w : WriterState) → Firm v ⊎ ((w .mark ≡ Dirty) × (w .flushed ≡ None)) → Firm v ⊎ (w .flushed ≡ None)
+firm-or v w h = ⊎-elim (λ f. inl f) (λ f. inr (f .1)) h
+
+pub flushed-counts : (sum : List ℕ → ℕ) (p : ℕ) (s : List ℕ) (c : ℕ) (tip : List ℕ) (f : Option ActiveChecksum) → Flushed sum p s c tip f → (a : ActiveChecksum) → f ≡ Some a → Counts sum p s c tip a
+flushed-counts sum p s c tip f e a q = subst (λ x. Flushed sum p s c tip x) q e
+
 module _ (sum : List ℕ → ℕ) (fits : Fits-four sum) (p : ℕ) (pos : 0 < p) (small : p ≤ 65535) where
-  pub firm-or : (v : BlobValue) (w : WriterState) → (Firm v ⊎ ((w .mark ≡ Dirty) × (w .flushed ≡ None))) → Firm v ⊎ (w .flushed ≡ None)
-  firm-or v w h = ⊎-elim (λ f. inl f) (λ f. inr (f .1)) h
-
-  pub flushed-short : (s : List ℕ) (c : ℕ) (tip : List ℕ) (f : Option ActiveChecksum) → Flushed sum p s c tip f → (a : ActiveChecksum) → f ≡ Some a → a .len < p
-  flushed-short s c tip f e a q = subst (λ x. Flushed sum p s c tip x) q e .short
-
-  pub flushed-under : (s : List ℕ) (c : ℕ) (tip : List ℕ) (f : Option ActiveChecksum) → Flushed sum p s c tip f → (a : ActiveChecksum) → f ≡ Some a → a .len ≤ length tip
-  flushed-under s c tip f e a q = subst (λ x. Flushed sum p s c tip x) q e .under
-
   module _ (v : BlobValue) (w : WriterState) (log promise : List Place) (i : Inv sum p v w log promise) where
     full : (k : ℕ) → k < length (w .tip) / p → k * p < length (w .tip)
     full k h = omega (arith, div-add-mod' (length (w .tip)) p, mul-le (k + 1) p (length (w .tip) / p) p (omega arith) (omega arith))
@@ -154,7 +151,7 @@ module _ (sum : List ℕ → ℕ) (fits : Fits-four sum) (p : ℕ) (pos : 0 < p)
     -- an old slot is shorter than a full page
     pub full-older : 0 < length (w .tip) / p → Older-kept sum (part p (w .tip) 0) (w .flushed)
     full-older h = older sum fits p small v (w .page) (w .tip) (w .flushed) (i .sound) (i .flushed)
-        (λ x q. omega (arith, flushed-short (v .shown) (w .page) (w .tip) (w .flushed) (i .flushed) x q, part-long p (w .tip) 0, div-add-mod' (length (w .tip)) p, mul-le 1 p (length (w .tip) / p) p (omega arith) (omega arith)))
+        (λ x q. omega (arith, flushed-counts sum p (v .shown) (w .page) (w .tip) (w .flushed) (i .flushed) x q .short, part-long p (w .tip) 0, div-add-mod' (length (w .tip)) p, mul-le 1 p (length (w .tip) / p) p (omega arith) (omega arith)))
 
     flush-guard : (n : ℕ) → length (w .tip) / p ≡ suc n → (u : BlobValue) (r : Result (Unit {0}) Fault) → Wrote v (start p (w .page)) (physical-pages sum p (w .tip) (kept w) (suc n)) u r → Guard sum p u promise
     flush-guard n e u r d =

@@ -40,7 +40,7 @@ use Rattle.law.proofs.Physical.{Older-kept}
 use Rattle.law.proofs.Places.{page-byte, start-less}
 use Rattle.law.proofs.Put.{older, put-counts, put-guard, put-long, put-neat, put-tracks}
 use Rattle.law.proofs.Standing.{guarded}
-use Rattle.law.proofs.Steps.{bytes-drop, firm-or, flushed-short, flushed-under, full-older, kept-flushed, suc-nonzero}
+use Rattle.law.proofs.Steps.{bytes-drop, firm-or, flushed-counts, full-older, kept-flushed, suc-nonzero}
 use Rattle.law.proofs.Writer.{All-neat, Counts, Even, Flushed, Inv, Tracks}
 use Rattle.law.proofs.Written.{part-long}
 use Rattle.paged.specs.declared.refusal.BlobCall.the-variants.{Settle as settle-call}
@@ -109,7 +109,7 @@ module _ (sum : List ℕ → ℕ) (fits : Fits-four sum) (p : ℕ) (pos : 0 < p)
       let keep = kept-flushed w (i .durable) in
       let row : settle-row (mark-behind (w .mark) (suc m)) ≡ settles ∷ [] = ap (λ b. settle-row (cond b (w .mark) Dirty)) (suc-nonzero m) in
       let guard : (u : BlobValue) (r : Result (Unit {0}) Fault) → Wrote v (start p (w .page)) (physical-pages sum p (w .tip) (kept w) (suc m)) u r → Guard sum p u promise
-      = λ u r d. put-guard sum fits p pos small (w .tip) (i .bytes) (suc m) some h v u (w .page) (w .flushed) promise r (i .sound) (i .flushed) (firm-or sum fits p pos small v w (i .firm)) o
+      = λ u r d. put-guard sum fits p pos small (w .tip) (i .bytes) (suc m) some h v u (w .page) (w .flushed) promise r (i .sound) (i .flushed) (firm-or v w (i .firm)) o
       (subst (λ x. Wrote v (start p (w .page)) (physical-pages sum p (w .tip) x (suc m)) u r) keep d) (i .guard) in
       let shown : (x : BlobValue) → x .shown ≡ overwritten (v .shown) (start p (w .page)) (physical-pages sum p (w .tip) (kept w) (suc m)) → x .shown ≡ overwritten (v .shown) (start p (w .page)) (physical-pages sum p (w .tip) (w .flushed) (suc m))
       = λ x d. subst (λ y. x .shown ≡ overwritten (v .shown) (start p (w .page)) (physical-pages sum p (w .tip) y (suc m))) keep d in
@@ -215,13 +215,12 @@ module _ (sum : List ℕ → ℕ) (fits : Fits-four sum) (p : ℕ) (pos : 0 < p)
       let h : (k : ℕ) → k < suc (length (w .tip) / p) → k * p < length (w .tip) = λ k l. ⊎-elim (λ (z : length (w .tip) % p ≡ 0). absurd (a .0 z)) (λ (z : length (w .tip) % p ≡ 0 → ⊥). omega (arith, mul-le k p (length (w .tip) / p) p (omega arith) (omega arith))) (cases-eq (length (w .tip) % p) 0) in
       let o : Older-kept sum (part p (w .tip) 0) (w .flushed) = older sum fits p small v (w .page) (w .tip) (w .flushed) (i .sound) (i .flushed)
       (λ x q.
-      let b = flushed-short sum fits p pos small (v .shown) (w .page) (w .tip) (w .flushed) (i .flushed) x q in
-      let c = flushed-under sum fits p pos small (v .shown) (w .page) (w .tip) (w .flushed) (i .flushed) x q in
+      let b = flushed-counts sum p (v .shown) (w .page) (w .tip) (w .flushed) (i .flushed) x q in
       ⊎-elim
       (λ (z : length (w .tip) / p ≡ 0).
       let ne : x .len ≡ length (w .tip) % p → ⊥ = ⊎-elim (λ y. absurd (y z)) (λ y. other-yes (length (w .tip) % p) (w .flushed) y x q) (a .1) in
-      omega (arith, part-long p (w .tip) 0, ne, no-page z))
-      (λ (z : length (w .tip) / p ≡ 0 → ⊥). omega (arith, part-long p (w .tip) 0, mul-le 1 p (length (w .tip) / p) p (omega arith) (omega arith)))
+      omega (arith, part-long p (w .tip) 0, ne, no-page z, b .short, b .under))
+      (λ (z : length (w .tip) / p ≡ 0 → ⊥). omega (arith, part-long p (w .tip) 0, b .short, mul-le 1 p (length (w .tip) / p) p (omega arith) (omega arith)))
       (cases-eq (length (w .tip) / p) 0)) in
       let rest : length (part p (w .tip) (length (w .tip) / p)) ≡ length (w .tip) % p = part-long p (w .tip) (length (w .tip) / p) ∙ omega arith in
       let slot : synced-slot sum p w (suc (length (w .tip) / p)) ≡ Some (rest-slot sum p w)

@@ -1,6 +1,6 @@
 -- The two facts about a verdict from which all else follows: a valid slot is covered, and what is covered is covered by a valid slot.
 use mathlib.Core.Path.{_≡_, refl, sym, ap, _∙_, subst}
-use mathlib.Core.Bool.{Bool, true, false, cond}
+use mathlib.Core.Bool.{true}
 use mathlib.Core.List.{List}
 use mathlib.Core.Logic.{_⊎_, inl, inr, ⊎-elim}
 use Prim.Native.Nat.{ℕ, _+_, _-_, _<_, _≤_}
@@ -13,10 +13,9 @@ use Rattle.std.proofs.shelf.Tests.{cond-true, cond-false, cond-both, and-parts,
 use Rattle.page.specs.declared.slot.Slot.{Slot}
 use Rattle.page.specs.declared.slot.Slot.the-variants.{First, Second}
 use Rattle.page.specs.declared.slot.ActiveChecksum.{ActiveChecksum}
-use Rattle.page.specs.declared.footer.Checksum.{Checksum}
-use Rattle.page.specs.Footer.{other-slot, two-at, four-at, footer-at, slot-in, longer-slot}
+use Rattle.page.specs.Footer.{other-slot, footer-at, slot-in, longer-slot}
 use Rattle.page.specs.Verdict.{Judged, rejected, partial, full, extent, valid, covered, first-valid, by-footer, verdict-of, cover}
-use Rattle.law.proofs.Slots.{slot-start, slot-of, Valid}
+use Rattle.law.proofs.Slots.{slot-of, Valid}
 
 module _ (sum : List ℕ → ℕ) (p : ℕ) (page : List ℕ) (long : length page ≡ p + 12) where
   data-long : length (take p page) ≡ p

@@ -8,7 +8,7 @@ use lib.Dec.{ltb}
 use lib.ListN.{length}
 use Rattle.checks.specs.Older.{older-sum}
 use Rattle.blob.specs.Value.{BlobValue, Settled}
-use Rattle.law.specs.Log.{Place, byte, Holds}
+use Rattle.law.specs.Log.{byte, Holds}
 use Rattle.law.specs.Events.{opening, append, sync, truncate, restart, accepted, Event, event, account}
 use Rattle.law.specs.Lines.{LineState, Line}
 use Rattle.law.specs.Law.{Head, begin, Shows-log, Tells-altered}

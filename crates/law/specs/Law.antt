@@ -11,10 +11,10 @@ use Rattle.blob.specs.Calls.{Restarted}
 use Rattle.page.specs.Layout.{start, page-at}
 use Rattle.page.specs.Verdict.{rejected, verdict-of, cover}
 use Rattle.paged.specs.Rows.{Op, reads, writes, resizes, settles, rejects}
-use Rattle.plan.specs.State.{size, Plan}
+use Rattle.plan.specs.State.{size}
 use Rattle.plan.specs.Open.{whole-pages, open-plan}
 use Rattle.law.specs.Log.{Place, gap, byte, opened-log, Holds}
-use Rattle.law.specs.Events.{Call, opening, append, sync, truncate, hand-over, page-read, restart, Outcome, accepted, refused-input, refused-state, Event, event, Account, account}
+use Rattle.law.specs.Events.{Call, opening, append, sync, truncate, hand-over, page-read, restart, Outcome, accepted, refused-input, refused-state, Event, event, account}
 use Rattle.law.specs.Lines.{LineWriter, LineState, at, Line}
 
 -- the line begins with a settled blob and no writer, and an opening may come
