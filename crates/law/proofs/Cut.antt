@@ -33,7 +33,7 @@ use Rattle.law.specs.Log.{Place, byte, gap, page-place}
 use Rattle.law.proofs.Carrying.{fault-stop}
 use Rattle.law.proofs.Guard.{Backed, Firm, Guard}
 use Rattle.law.proofs.Kept.{resize-keeps, slot-behind, slot-within, slots-apart, write-slot}
-use Rattle.law.proofs.Open.{Cutted, cut-long, cut-neat, cut-page}
+use Rattle.law.proofs.Open.{Cut-to, cut-long, cut-neat, cut-page}
 use Rattle.law.proofs.Opening.{place-covered}
 use Rattle.law.proofs.Places.{page-byte, page-long, slot-inside, start-less, start-more}
 use Rattle.law.proofs.Slots.{Valid, slot-of, slot-start}
@@ -94,10 +94,10 @@ module _ (sum : List ℕ → ℕ) (p : ℕ) (pos : 0 < p) (v : BlobValue) (w : W
   resized-guard u r d = resize-keeps sum p v u promise (pages-for p n) r (λ q b e. omega (arith, few q b e, up-to)) d (i .guard)
 
   cut-by : (b : Bool) → count-stays p n w ≡ b → (u : BlobValue) → Carried v (cond b [] (resizes (start p (pages-for p n)) ∷ [])) u (Ok tt)
-      → Cutted sum p v u (pages-for p n) promise × (u .shown ≡ cond b (v .shown) (resized (v .shown) (start p (pages-for p n))))
-  cut-by true e u d = subst (λ y. Cutted sum p v y (pages-for p n) promise × (y .shown ≡ v .shown)) (sym d)
+      → Cut-to sum p v u (pages-for p n) promise × (u .shown ≡ cond b (v .shown) (resized (v .shown) (start p (pages-for p n))))
+  cut-by true e u d = subst (λ y. Cut-to sum p v y (pages-for p n) promise × (y .shown ≡ v .shown)) (sym d)
       (record { sound = i .sound; firm = firm; guard = i .guard; long = counted (w .flushed) (i .flushed) ∙ ap (start p) (sym (eqb-true (pages-for p n) (page-count (w .page) (w .flushed)) e)); page = λ _ _. refl }, refl)
-  cut-by false e u d = subst (λ y. Cutted sum p v y (pages-for p n) promise × (y .shown ≡ resized (v .shown) (start p (pages-for p n)))) (sym (d .1 .2))
+  cut-by false e u d = subst (λ y. Cut-to sum p v y (pages-for p n) promise × (y .shown ≡ resized (v .shown) (start p (pages-for p n)))) (sym (d .1 .2))
       (let done : Resize-done v (d .0) (start p (pages-for p n)) = d .1 .1 in
       let long : length (d .0 .shown) ≡ start p (pages-for p n) = ap length (done .shows) ∙ cut-long p (v .shown) (pages-for p n) inside in (
         record {
@@ -110,7 +110,7 @@ module _ (sum : List ℕ → ℕ) (p : ℕ) (pos : 0 < p) (v : BlobValue) (w : W
         done .shows,
       ))
 
-  pub cut-ran : (u : BlobValue) → Carried v (resize-row p n w) u (Ok tt) → Cutted sum p v u (pages-for p n) promise × (u .shown ≡ resize-shows p n w (v .shown))
+  pub cut-ran : (u : BlobValue) → Carried v (resize-row p n w) u (Ok tt) → Cut-to sum p v u (pages-for p n) promise × (u .shown ≡ resize-shows p n w (v .shown))
   cut-ran = cut-by (count-stays p n w) refl
 
   pub cut-stopped : (u : BlobValue) (k : StateRefusal) → Carried v (resize-row p n w) u (Err k) → Sound u × Guard sum p u promise
@@ -120,7 +120,7 @@ module _ (sum : List ℕ → ℕ) (p : ℕ) (pos : 0 < p) (v : BlobValue) (w : W
       (λ z. let x = fault-stop resize-call (start p (pages-for p n)) (λ fault. Resized v (start p (pages-for p n)) u (Err fault)) k (z .1) in (z .0, resized-guard u (Err (x .0)) (x .1)))
       (λ z. absurd (z .1 .2)) d)
 
-  pub cut-all-neat : (u : BlobValue) → Cutted sum p v u (pages-for p n) promise → All-neat sum p (v .shown) → All-neat sum p (u .shown)
+  pub cut-all-neat : (u : BlobValue) → Cut-to sum p v u (pages-for p n) promise → All-neat sum p (v .shown) → All-neat sum p (u .shown)
   cut-all-neat u c = cut-neat sum p (v .shown) (u .shown) (pages-for p n) (c .long) inside (c .page)
 
   -- the mark is Clean only where nothing was resized

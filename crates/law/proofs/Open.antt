@@ -192,7 +192,7 @@ module _ (p : ℕ) (s : List ℕ) (k : ℕ) (fits : start p k ≤ length s) wher
       cut-byte n h = grind (arith, places)
 
 -- the blob u is v cut to m whole pages
-pub record Cutted (sum : List ℕ → ℕ) (p : ℕ) (v u : BlobValue) (m : ℕ) (promise : List Place) : Type 0 where
+pub record Cut-to (sum : List ℕ → ℕ) (p : ℕ) (v u : BlobValue) (m : ℕ) (promise : List Place) : Type 0 where
   pub sound : Sound u
   pub firm : Firm u
   pub guard : Guard sum p u promise
@@ -278,7 +278,7 @@ module _ (sum : List ℕ → ℕ) (p : ℕ) (pos : 0 < p) (capacity : ℕ) (v : 
   resized-guard : (u : BlobValue) (r : Result (Unit {0}) Fault) → Resized v (start p many) u r → Guard sum p u promise
   resized-guard u r d = resize-keeps sum p v u promise many r few d guard
 
-  dropped : (u : BlobValue) → Carried v (scan-row sum p (v .shown) all ++ (resizes (start p many) ∷ settles ∷ [])) u (Ok tt) → Cutted sum p v u many promise × Settled u
+  dropped : (u : BlobValue) → Carried v (scan-row sum p (v .shown) all ++ (resizes (start p many) ∷ settles ∷ [])) u (Ok tt) → Cut-to sum p v u many promise × Settled u
   dropped u d =
       let a = ran-split v u (scan-row sum p (v .shown) all) _ d in
       let b = subst (λ z. Carried z (resizes (start p many) ∷ settles ∷ []) u (Ok tt)) (scan-ran sum p (v .shown) v (a .0) all (a .1 .0)) (a .1 .1) in
@@ -286,7 +286,7 @@ module _ (sum : List ℕ → ℕ) (p : ℕ) (pos : 0 < p) (capacity : ℕ) (v : 
       let c = b .1 .2 in
       let fixed : Settle-done (b .0) (c .0) = c .1 .1 in
       let shows : c .0 .shown ≡ resized (v .shown) (start p many) = fixed .shows ∙ cutting .shows in
-      subst (λ x. Cutted sum p v x many promise × Settled x) (sym (c .1 .2)) (
+      subst (λ x. Cut-to sum p v x many promise × Settled x) (sym (c .1 .2)) (
         record {
           sound = c .1 .0;
           firm = fixed .settled .firm;

@@ -33,10 +33,10 @@ use Rattle.law.proofs.Carrying.{Stage, ran-split, read-stop, reject-stop, stop
 use Rattle.law.proofs.Cut.{cut-inside, cut-ran, cut-stopped, even-kept, log-there, page-earlier, slot-guard, tracks-cut}
 use Rattle.law.proofs.Guard.{Firm, Guard}
 use Rattle.law.proofs.Kept.{read-keeps}
-use Rattle.law.proofs.Open.{Cutted}
+use Rattle.law.proofs.Open.{Cut-to}
 use Rattle.law.proofs.Places.{other-twice, page-byte, page-long, start-less, start-more}
 use Rattle.law.proofs.Put.{page-bytes}
-use Rattle.law.proofs.Shorten.{cover3, len2, long3, neat3, same3, slot1, slot3, valid1, valid2, valid3, w3}
+use Rattle.law.proofs.Shorten.{cover3, len2, long3, neat3, same3, slot1, slot3, valid1, valid2, valid3, whole3}
 use Rattle.law.proofs.Slots.{Neat, Valid, slot-of, slot-start}
 use Rattle.law.proofs.Steps.{Kept, bytes-front, nonzero}
 use Rattle.law.proofs.Verdicts.{Told, longest, verdict-told}
@@ -66,7 +66,7 @@ module _ (sum : List ℕ → ℕ) (fits : Fits-four sum) (p : ℕ) (pos : 0 < p)
   }
 
   -- the writes over a blob where the slot a of the page is valid, and covers n % p bytes
-  module _ (x : BlobValue) (c : Cutted sum p v x (n / p + 1) promise) (a b : Slot) (ab : other-slot a ≡ b) (ba : other-slot b ≡ a)
+  module _ (x : BlobValue) (c : Cut-to sum p v x (n / p + 1) promise) (a b : Slot) (ab : other-slot a ≡ b) (ba : other-slot b ≡ a)
       (good : Valid sum p (page-at p (x .shown) (n / p)) a) (r : n % p ≤ slot-of p (page-at p (x .shown) (n / p)) a .len) where
     whole : start p (n / p) + (p + 12) ≤ length (x .shown)
     whole = omega (arith, c .long, start-more p (n / p))
@@ -148,7 +148,7 @@ module _ (sum : List ℕ → ℕ) (fits : Fits-four sum) (p : ℕ) (pos : 0 < p)
 
     earlier : (j : ℕ) → j < n / p → page-at p t3 j ≡ page-at p (v .shown) j
     earlier j h =
-        page-earlier p (x .shown) t3 (n / p) whole (w3 sum fits p small (x .shown) (n / p) (n % p) a b ab ba whole are odd rp) (same3 sum fits p small (x .shown) (n / p) (n % p) a b ab ba whole are odd rp) j h
+        page-earlier p (x .shown) t3 (n / p) whole (whole3 sum fits p small (x .shown) (n / p) (n % p) a b ab ba whole are odd rp) (same3 sum fits p small (x .shown) (n / p) (n % p) a b ab ba whole are odd rp) j h
         ∙ c .page j (omega arith)
 
     shorten-neat : All-neat sum p (v .shown) → All-neat sum p t3
@@ -168,7 +168,7 @@ module _ (sum : List ℕ → ℕ) (fits : Fits-four sum) (p : ℕ) (pos : 0 < p)
         let e = z .shows in
         let lp : length (page-at p (x .shown) (n / p)) ≡ p + 12 = page-long p (x .shown) (n / p) whole in
         let lt : length (take (n % p) (page-at p (x .shown) (n / p))) ≡ n % p = length-take (n % p) (page-at p (x .shown) (n / p)) ∙ omega (arith, lp, rp) in
-        let S3 = same3 sum fits p small (x .shown) (n / p) (n % p) a b ab ba whole are odd rp in
+        let kept = same3 sum fits p small (x .shown) (n / p) (n % p) a b ab ba whole are odd rp in
         let cov = longest sum p (page-at p (x .shown) (n / p)) lp a good in
         let there : page-at p (x .shown) (n / p) ≡ page-at p (v .shown) (n / p) = c .page (n / p) (omega arith) in
         record {
@@ -182,7 +182,7 @@ module _ (sum : List ℕ → ℕ) (fits : Fits-four sum) (p : ℕ) (pos : 0 < p)
             most = cover3 sum fits p small (x .shown) (n / p) (n % p) a b ab ba whole are odd rp;
             short = rp;
             under = omega (arith, lt);
-            same = λ k h. S3 (start p (n / p) + k) (omega (arith, rp)) ∙ sym (getD-take (n % p) (page-at p (x .shown) (n / p)) k 0 h ∙ page-byte p (x .shown) (n / p) k (omega (arith, rp)));
+            same = λ k h. kept (start p (n / p) + k) (omega (arith, rp)) ∙ sym (getD-take (n % p) (page-at p (x .shown) (n / p)) k 0 h ∙ page-byte p (x .shown) (n / p) k (omega (arith, rp)));
           });
           tracks = subst (λ t. Tracks sum p t (n / p) (take (n % p) (page-at p (x .shown) (n / p))) (take n log)) (sym e)
               (tracks-cut sum p pos v w log promise i firm even n less few t3 (take (n % p) (page-at p (x .shown) (n / p))) earlier lt
@@ -196,8 +196,8 @@ module _ (sum : List ℕ → ℕ) (fits : Fits-four sum) (p : ℕ) (pos : 0 < p)
   pages : pages-for p n ≡ n / p + 1
   pages = cond-false (eqb (n % p) 0) _ _ (ne-eqb _ _ (λ e. omega arith))
 
-  cutted : (u : BlobValue) → Carried v (resize-row p n w) u (Ok tt) → Cutted sum p v u (n / p + 1) promise
-  cutted u d = subst (λ m. Cutted sum p v u m promise) pages (cut-ran sum p pos v w log promise i firm even n less few u d .0)
+  cut-here : (u : BlobValue) → Carried v (resize-row p n w) u (Ok tt) → Cut-to sum p v u (n / p + 1) promise
+  cut-here u d = subst (λ m. Cut-to sum p v u m promise) pages (cut-ran sum p pos v w log promise i firm even n less few u d .0)
 
   read-stopped : (u m : BlobValue) (k : StateRefusal) → Guard sum p m promise → Read-stopped m (start p (n / p)) (p + 12) u k → Guard sum p u promise
   read-stopped u m k g d = read-stop (λ x. Guard sum p x promise) m u g (start p (n / p)) (p + 12) k (λ before after r x. read-keeps sum p m u promise (start p (n / p)) before after r x g) d
@@ -211,7 +211,7 @@ module _ (sum : List ℕ → ℕ) (fits : Fits-four sum) (p : ℕ) (pos : 0 < p)
         ran = λ u d. absurd (never u d);
         stopped = λ u k d. ⊎-elim (λ y. cut-stopped sum p pos v w log promise i firm even n less few u k y)
             (λ y.
-            let c = cutted (y .0) (y .1 .0) in
+            let c = cut-here (y .0) (y .1 .0) in
             ⊎-elim
             (λ z. (z .0, read-stopped u (y .0) k (c .guard) (z .1)))
             (λ z. ⊎-elim
@@ -230,14 +230,14 @@ module _ (sum : List ℕ → ℕ) (fits : Fits-four sum) (p : ℕ) (pos : 0 < p)
 
     -- what holds of the blob after the resize
     record Ready (x : BlobValue) : Type 0 where
-      pub cut : Cutted sum p v x (n / p + 1) promise
+      pub cut : Cut-to sum p v x (n / p + 1) promise
       pub here : page-at p (x .shown) (n / p) ≡ page
       pub good : Valid sum p (page-at p (x .shown) (n / p)) (a .slot)
       pub long : n % p ≤ slot-of p (page-at p (x .shown) (n / p)) (a .slot) .len
 
     ready : (x : BlobValue) → Carried v (resize-row p n w) x (Ok tt) → Ready x
     ready x d =
-        let c = cutted x d in
+        let c = cut-here x d in
         let here : page-at p (x .shown) (n / p) ≡ page = ap (λ z. page-at p z (n / p)) (cut-ran sum p pos v w log promise i firm even n less few x d .1) ∙ sym reads-as in
         let long = page-long p (x .shown) (n / p) (omega (arith, c .long, start-more p (n / p))) in
         let z = by-active sum p (page-at p (x .shown) (n / p)) long (verdict-of sum (page-at p (x .shown) (n / p))) a (verdict-told sum p (page-at p (x .shown) (n / p)) long) (ap (λ y. active-of (verdict-of sum y)) here ∙ by) in
