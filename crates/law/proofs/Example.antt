@@ -129,9 +129,11 @@ step-open : Step older-sum 4 (begin (through [])) (opening 8 0) accepted (at (th
 unfolding start cover page-at scan-row pages-kept open-plan
 step-open = opens {v = through []} {u = through []} {w = None} {wish = 8} {told = 0} 11 16 refl refl
 
-step-append : Step older-sum 4 (at (through []) (held recovering opened) false) (append (1 ∷ 2 ∷ 3 ∷ [])) accepted (at (through []) (held recovering appended) false)
+step-append : Step older-sum 4 (at (through []) (held recovering opened) false) (append (1 ∷ 2 ∷ 3 ∷ [])) accepted
+    (at (through []) (held recovering appended) false)
 unfolding small flush-plan append-plan
-step-append = appends {v = through []} {u = through []} {phase = recovering} {w = opened} {m = false} {bytes = 1 ∷ 2 ∷ 3 ∷ []} (small-bytes (1 ∷ 2 ∷ 3 ∷ []) refl) refl
+step-append = appends {v = through []} {u = through []} {phase = recovering} {w = opened} {m = false} {bytes = 1 ∷ 2 ∷ 3 ∷ []}
+    (small-bytes (1 ∷ 2 ∷ 3 ∷ []) refl) refl
 
 step-sync : Step older-sum 4 (at (through []) (held recovering appended) false) sync accepted (at (through three) (held recovering synced) true)
 unfolding start part physical-page physical-pages sync-plan
@@ -205,7 +207,8 @@ untorn (a ∷ new) [] left = true
 untorn (a ∷ new) (b ∷ old) [] = false
 untorn (a ∷ new) (b ∷ old) (c ∷ left) = (not (eqb a b) || eqb c b) && untorn new old left
 
-untorn-bytes : (new old left : List ℕ) → untorn new old left ≡ true → (k : ℕ) → k < length old → k < length new → getD new k 0 ≡ getD old k 0 → getD left k 0 ≡ getD old k 0
+untorn-bytes : (new old left : List ℕ) → untorn new old left ≡ true → (k : ℕ) → k < length old → k < length new → getD new k 0 ≡ getD old k 0
+    → getD left k 0 ≡ getD old k 0
 unfolding untorn
 untorn-bytes [] old left e k h l q = absurd (omega (arith, l))
 untorn-bytes (a ∷ new) [] left e k h l q = absurd (omega (arith, h))
@@ -214,7 +217,8 @@ untorn-bytes (a ∷ new) (b ∷ old) (c ∷ left) e zero h l q = ⊎-elim
     (λ d. absurd (eqb-false a b (not-true (eqb a b) d) q))
     (λ d. eqb-true c b d)
     (or-cases (not (eqb a b)) (eqb c b) (and-parts (not (eqb a b) || eqb c b) (untorn new old left) e .0))
-untorn-bytes (a ∷ new) (b ∷ old) (c ∷ left) e (suc k) h l q = untorn-bytes new old left (and-parts (not (eqb a b) || eqb c b) (untorn new old left) e .1) k (omega (arith, h)) (omega (arith, l)) q
+untorn-bytes (a ∷ new) (b ∷ old) (c ∷ left) e (suc k) h l q = untorn-bytes new old left
+    (and-parts (not (eqb a b) || eqb c b) (untorn new old left) e .1) k (omega (arith, h)) (omega (arith, l)) q
 
 abbrev torn-blob : BlobValue
 torn-blob = record { shown = torn; ceiling = 64; firm = λ k. ltb k 16 && eqb (getD four k 0) (getD three k 0); shortest = 16; longest = 16; power = false }
@@ -263,18 +267,22 @@ step-after = restarts {v = torn-blob} {u = through torn} {w = None} {m = false}
 
 step-again : Step older-sum 4 (at (through torn) None true) (opening 8 16) accepted (at (through torn) (held recovering (open-plan older-sum 4 8 torn .to)) false)
 unfolding start cover page-at scan-row pages-kept open-plan
-step-again = opens {v = through torn} {u = through torn} {w = None} {wish = 8} {told = 16} 11 16 refl (through torn, (sound-after, (omega arith, refl, refl), refl))
+step-again = opens {v = through torn} {u = through torn} {w = None} {wish = 8} {told = 16} 11 16 refl
+    (through torn, (sound-after, (omega arith, refl, refl), refl))
 
 pub example : Example
 unfolding start page-at cover scan-row pages-kept page-place page-places full-rows pages-log opened-log
 example = record {
   head = record { sound = sound-none; settled = settled [] };
   end = at (through two) (held recovering (open-plan older-sum 4 8 two .to)) false;
-  line = then step-open sound-none (then step-append sound-none (then step-sync sound-three (then step-truncate sound-two (then step-restart sound-two (then step-reopen sound-two none)))));
+  line = then step-open sound-none (then step-append sound-none (then step-sync sound-three
+      (then step-truncate sound-two (then step-restart sound-two (then step-reopen sound-two none)))));
   log = refl;
   promise = refl;
   torn-end = at (through torn) (held recovering (open-plan older-sum 4 8 torn .to)) false;
-  torn-line = then step-open sound-none (then step-append sound-none (then step-sync sound-three (then step-grow sound-three (then step-torn sound-torn (then step-after sound-after (then step-again sound-after none))))));
+  torn-line = then step-open sound-none (then step-append sound-none
+      (then step-sync sound-three (then step-grow sound-three (then step-torn sound-torn
+      (then step-after sound-after (then step-again sound-after none))))));
   torn-log = refl;
   holds-can-fail = λ h. let e = h 1 2 refl in let z : _≡_ {A = ℕ} 0 1 = cc in omega arith;
   shows-can-fail = λ h. let e : byte 1 ∷ byte 2 ∷ [] ≡ byte 1 ∷ byte 2 ∷ byte 3 ∷ [] = h .opened in let z : _≡_ {A = ℕ} 0 1 = cc in omega arith;

@@ -45,7 +45,8 @@ module _ (sum : List ℕ → ℕ) (fits : Fits-four sum) (p : ℕ) (small : p �
   whole3 = omega (arith, slot-long p s2 c a (slot-bytes 0 0) (omega arith) whole2, whole2)
 
   pub long3 : length s3 ≡ length s
-  long3 = slot-long p s2 c a (slot-bytes 0 0) (omega arith) whole2 ∙ slot-long p s1 c b (two-bytes r) (omega arith) whole1 ∙ slot-long p s c b (slot-bytes 0 check) (omega arith) whole
+  long3 = slot-long p s2 c a (slot-bytes 0 0) (omega arith) whole2 ∙ slot-long p s1 c b (two-bytes r) (omega arith) whole1
+      ∙ slot-long p s c b (slot-bytes 0 check) (omega arith) whole
 
   same1 : (k : ℕ) → k < start p c + p → getD s1 k 0 ≡ getD s k 0
   same1 k h = slot-before p s c b (slot-bytes 0 check) (omega arith) whole k h
@@ -66,7 +67,8 @@ module _ (sum : List ℕ → ℕ) (fits : Fits-four sum) (p : ℕ) (small : p �
   new2 : (k : ℕ) → k < 6 → getD s2 (start p c + (slot-start p b + k)) 0 ≡ getD (slot-bytes r check) k 0
   new2 zero h = slot-new p s1 c b (two-bytes r) (omega arith) whole1 zero (omega arith)
   new2 (suc zero) h = slot-new p s1 c b (two-bytes r) (omega arith) whole1 (suc zero) (omega arith)
-  new2 (suc (suc k)) h = slot-rest p s1 c b (two-bytes r) (omega arith) whole1 (suc (suc k)) (omega arith) ∙ slot-new p s c b (slot-bytes 0 check) (omega arith) whole (suc (suc k)) h
+  new2 (suc (suc k)) h = slot-rest p s1 c b (two-bytes r) (omega arith) whole1 (suc (suc k)) (omega arith)
+      ∙ slot-new p s c b (slot-bytes 0 check) (omega arith) whole (suc (suc k)) h
 
   slot2 : slot-of p (page-at p s2 c) b ≡ record { slot = b; len = r; check = check }
   slot2 = slot-reads p (page-at p s2 c) b (slot-bytes r check) (λ k h. page-byte p s2 c (slot-start p b + k) (slot-inside p b k h) ∙ new2 k h)
@@ -82,7 +84,8 @@ module _ (sum : List ℕ → ℕ) (fits : Fits-four sum) (p : ℕ) (small : p �
         low = omega (arith, len2);
         high = omega (arith, len2);
         check = ap (λ n. sum (take n (page-at p s2 c))) len2
-            ∙ ap sum (same-take r (page-at p s c) (page-at p s2 c) (omega (arith, page-long p s c whole)) (omega (arith, page-long p s2 c whole2)) (λ k h. data-stays p s s2 c whole whole2 same2 k (omega arith)))
+            ∙ ap sum (same-take r (page-at p s c) (page-at p s2 c) (omega (arith, page-long p s c whole)) (omega (arith, page-long p s2 c whole2))
+            (λ k h. data-stays p s s2 c whole whole2 same2 k (omega arith)))
             ∙ sym q;
       }
 
@@ -96,7 +99,8 @@ module _ (sum : List ℕ → ℕ) (fits : Fits-four sum) (p : ℕ) (small : p �
   valid3 = valid-stays sum p s2 s3 c b whole2 whole3 six3 (λ k h. before3 (start p c + k) (omega (arith, len2))) valid2
 
   zero3 : slot-of p (page-at p s3 c) a .len ≡ 0
-  zero3 = ap (λ (x : ActiveChecksum). x .len) (slot-reads p (page-at p s3 c) a (slot-bytes 0 0) (λ k h. page-byte p s3 c (slot-start p a + k) (slot-inside p a k h) ∙ slot-new p s2 c a (slot-bytes 0 0) (omega arith) whole2 k h))
+  zero3 = ap (λ (x : ActiveChecksum). x .len) (slot-reads p (page-at p s3 c) a (slot-bytes 0 0)
+      (λ k h. page-byte p s3 c (slot-start p a + k) (slot-inside p a k h) ∙ slot-new p s2 c a (slot-bytes 0 0) (omega arith) whole2 k h))
 
   pub neat3 : Neat sum p (page-at p s3 c)
   neat3 w = ⊎-elim
