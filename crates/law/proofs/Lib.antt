@@ -25,3 +25,4 @@ pub mod Calm
 pub mod Law
 pub mod Example
 pub mod Longer
+pub mod Worked

@@ -3,3 +3,4 @@ pub mod Events
 pub mod Lines
 pub mod Law
 pub mod Example
+pub mod Worked

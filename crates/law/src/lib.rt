@@ -2,6 +2,7 @@ ghost use mathlib.Core.Path.{_≡_};
 ghost use lib.Dec.{ltb};
 ghost use Rattle.law.specs.Law.{The-law, Law-at};
 ghost use Rattle.law.specs.Example.{Example, two};
+ghost use Rattle.law.specs.Worked.{Worked-calls};
 
 // A page size is any number but 0.
 fn is_page_size(page_size: u16) -> bool
@@ -26,9 +27,10 @@ fn page_of_two() -> [u8; 16]
     [1, 2, 3, 0, 0, 0, 0, 0, 0, 0, 0, 2, 0, 0, 0, 8]
 }
 
-// The page that the worked line leaves. There is such a line.
+// The page that the worked line leaves. There is such a line, and the worked calls are what the definitions give.
 pub fn worked_page() -> [u8; 16]
     ensures line { λ _. ⌜ Example ⌝ }
+    ensures calls { λ _. ⌜ Worked-calls ⌝ }
     ensures page { λ r. ⌜ r ≡ two ⌝ }
 {
     page_of_two()
