@@ -49,7 +49,8 @@ module _ (sum : List ℕ → ℕ) (law : Tells-one sum) (p : ℕ) (small : p ≤
       (λ h. ⊎-elim
       (λ e. absurd (omega arith))
       (λ u. absurd (law (take (slot-of p y w .len) y) (take (slot-of p y w .len) x)
-      (bytes-take (slot-of p y w .len) y (omega (arith, v .high)) bytes-y) (bytes-take (slot-of p y w .len) x (omega (arith, v .high)) bytes-x) (apart (slot-of p y w .len) h (v .high))
+      (bytes-take (slot-of p y w .len) y (omega (arith, v .high)) bytes-y) (bytes-take (slot-of p y w .len) x (omega (arith, v .high)) bytes-x)
+      (apart (slot-of p y w .len) h (v .high))
       (v .check ∙ c ∙ sym (u .check) ∙ ap (λ n. sum (take n x)) (sym l))))
       (neat w))
       (λ h. omega (arith, z .1 .1))

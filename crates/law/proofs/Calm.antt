@@ -32,8 +32,11 @@ gapless-more : (log : List Place) (bs : List ℕ) → No-gap log → No-gap (log
 gapless-more log bs g k h = ⊎-elim
     (λ (l : k < length log). let x = g k l in (x .0, getD-append-left log (map byte bs) gap k l ∙ x .1))
     (λ (l : length log ≤ k).
-    let a : k < length log + length (map byte bs) = simp length-append at h in
-    (getD bs (k - length log) 0, getD-append-right log (map byte bs) (length log) k gap refl l ∙ getD-map byte bs (k - length log) 0 gap (omega (arith, length-map bs byte))))
+    let a : k < length log + length (map byte bs) = simp length-append at h in (
+      getD bs (k - length log) 0,
+      getD-append-right log (map byte bs) (length log) k gap refl l
+          ∙ getD-map byte bs (k - length log) 0 gap (omega (arith, length-map bs byte)),
+    ))
     (cases-lt k (length log))
 
 gapless-less : (log : List Place) (n : ℕ) → No-gap log → No-gap (take n log)
@@ -49,29 +52,52 @@ module _ (sum : List ℕ → ℕ) (fits : Fits-four sum) (p : ℕ) (pos : 0 < p)
     pub shows : s .may-open ≡ true → Shows-log sum p (s .blob .shown) (a .log)
 
   -- at rest, with all of the tip on the blob
-  at-rest : (u : BlobValue) (w : WriterState) (log : List Place) → No-gap log → Inv sum p u w log log × (Settled u × Even (w .tip) (w .flushed)) → Shows-log sum p (u .shown) log
+  at-rest : (u : BlobValue) (w : WriterState) (log : List Place) → No-gap log → Inv sum p u w log log × (Settled u × Even (w .tip) (w .flushed))
+      → Shows-log sum p (u .shown) log
   at-rest u w log g x =
       let i = x .0 in
-      shows-log sum p pos (u .shown) (w .tip) log g (w .page) (i .tracks) (tip-short sum p (u .shown) (w .page) (w .tip) log (i .tracks) (w .flushed) pos (i .flushed) (x .1 .1) .0) (w .flushed) (i .flushed) (x .1 .1)
+      shows-log sum p pos (u .shown) (w .tip) log g (w .page) (i .tracks)
+      (tip-short sum p (u .shown) (w .page) (w .tip) log (i .tracks) (w .flushed) pos (i .flushed) (x .1 .1) .0) (w .flushed) (i .flushed)
+      (x .1 .1)
 
-  same-shows : (v u : BlobValue) (m : Bool) (a : Account) → u .shown ≡ v .shown → (m ≡ true → Shows-log sum p (v .shown) (a .log)) → m ≡ true → Shows-log sum p (u .shown) (a .log)
+  same-shows : (v u : BlobValue) (m : Bool) (a : Account) → u .shown ≡ v .shown → (m ≡ true → Shows-log sum p (v .shown) (a .log)) → m ≡ true
+      → Shows-log sum p (u .shown) (a .log)
   same-shows v u m a e f q = subst (λ s. Shows-log sum p s (a .log)) (sym e) (f q)
 
-  calm-step : {s u : LineState} {call : Call} {outcome : Outcome} (a : Account) → Whole s a → Sound (u .blob) → Calm-call call outcome → Step sum p s call outcome u
+  calm-step : {s u : LineState} {call : Call} {outcome : Outcome} (a : Account) → Whole s a → Sound (u .blob) → Calm-call call outcome
+      → Step sum p s call outcome u
       → Whole u (account-by sum p a call outcome (u .blob .shown))
   calm-step a g q c (opens {v} {u} {w} {wish} tip page e d) =
       let h = g .good in
       let x = open-kept sum p pos (capacity-for p wish) v (a .promise) (h .sound) (h .settled refl .firm) (h .guard) in
       let same = x .same u d ∙ g .shows refl .opened in
-      record { good = step sum fits p pos small a h q (opens {v = v} {u = u} {w = w} {wish = wish} tip page e d); gapless = subst No-gap (sym same) (g .gapless); neat = x .neat u d (g .neat); shows = λ z. absurd (both-ways false refl z) }
+      record {
+        good = step sum fits p pos small a h q (opens {v = v} {u = u} {w = w} {wish = wish} tip page e d);
+        gapless = subst No-gap (sym same)
+            (g .gapless);
+        neat = x .neat u d (g .neat);
+        shows = λ z. absurd (both-ways false refl z);
+      }
   calm-step a g q c (opening-refused tip page e) = g
   calm-step a g q c (appends {v} {u} {phase} {w} {m} {bytes} are d) =
       let x = append-kept sum fits p pos small v w bytes (a .log) (a .promise) are (g .good .writer) in
-      record { good = step sum fits p pos small a (g .good) q (appends {v = v} {u = u} {phase = phase} {w = w} {m = m} {bytes = bytes} are d); gapless = gapless-more (a .log) bytes (g .gapless); neat = x .neat u d (g .neat); shows = λ z. absurd (both-ways false refl z) }
+      record {
+        good = step sum fits p pos small a (g .good) q (appends {v = v} {u = u} {phase = phase} {w = w} {m = m} {bytes = bytes} are d);
+        gapless
+            = gapless-more (a .log) bytes (g .gapless);
+        neat = x .neat u d (g .neat);
+        shows = λ z. absurd (both-ways false refl z);
+      }
   calm-step a g q c (append-refused tip page e) = g
   calm-step a g q c (syncs {v} {u} {phase} {w} {m} d) =
       let x = sync-kept sum fits p pos small v w (a .log) (a .promise) (g .good .writer) in
-      record { good = step sum fits p pos small a (g .good) q (syncs {v = v} {u = u} {phase = phase} {w = w} {m = m} d); gapless = g .gapless; neat = x .neat u d (g .neat); shows = λ _. at-rest u (sync-plan sum p w .to) (a .log) (g .gapless) (x .ran u d) }
+      record {
+        good = step sum fits p pos small a (g .good) q (syncs {v = v} {u = u} {phase = phase} {w = w} {m = m} d);
+        gapless = g .gapless;
+        neat =
+            x .neat u d (g .neat);
+        shows = λ _. at-rest u (sync-plan sum p w .to) (a .log) (g .gapless) (x .ran u d);
+      }
   calm-step a g q c (sync-refused tip page e) = g
   calm-step a g q c (truncates {v} {u} {w} {to} {m} {n} d) =
       let x = truncate-ran sum fits p pos small v w n (a .log) (a .promise) (g .good .writer) u to d in
@@ -83,16 +109,40 @@ module _ (sum : List ℕ → ℕ) (fits : Fits-four sum) (p : ℕ) (pos : 0 < p)
         shows = λ _. at-rest u to (take n (a .log)) f x;
       }
   calm-step a g q c (truncate-refused tip page e) = g
-  calm-step a g q c (hands-over {v} {w} {m}) = record { good = step sum fits p pos small a (g .good) q (hands-over {v = v} {w = w} {m = m}); gapless = g .gapless; neat = g .neat; shows = g .shows }
+  calm-step a g q c (hands-over {v} {w} {m}) = record {
+    good = step sum fits p pos small a (g .good) q
+        (hands-over {v = v} {w = w} {m = m});
+    gapless = g .gapless;
+    neat = g .neat;
+    shows = g .shows;
+  }
   calm-step a g q c (reads-page {v} {u} {w} {m} {i} before after x d) =
       let e = fetched-same sum fits p pos small v u (start p i) before after (Ok x) q (d .1) .shows in
-      record { good = step sum fits p pos small a (g .good) q (reads-page {v = v} {u = u} {w = w} {m = m} {i = i} before after x d); gapless = g .gapless; neat = subst (All-neat sum p) (sym e) (g .neat); shows = same-shows v u m a e (g .shows) }
+      record {
+        good = step sum fits p pos small a (g .good) q (reads-page {v = v} {u = u} {w = w} {m = m} {i = i} before after x d);
+        gapless = g
+            .gapless;
+        neat = subst (All-neat sum p) (sym e) (g .neat);
+        shows = same-shows v u m a e (g .shows);
+      }
   calm-step a g q c (page-refused {v} {u} {w} {m} {i} {k} before after d) =
       let e = ap (λ (x : BlobValue). x .shown) (d .1) in
-      record { good = step sum fits p pos small a (g .good) q (page-refused {v = v} {u = u} {w = w} {m = m} {i = i} {k = k} before after d); gapless = g .gapless; neat = subst (All-neat sum p) (sym e) (g .neat); shows = same-shows v u m a e (g .shows) }
+      record {
+        good = step sum fits p pos small a (g .good) q (page-refused {v = v} {u = u} {w = w} {m = m} {i = i} {k = k} before after d);
+        gapless =
+            g .gapless;
+        neat = subst (All-neat sum p) (sym e) (g .neat);
+        shows = same-shows v u m a e (g .shows);
+      }
   calm-step a g q c (page-stopped {v} {u} {w} {m} {i} {k} before after d) =
       let e = fetched-same sum fits p pos small v u (start p i) before after (Err k) q (d .1) .shows in
-      record { good = step sum fits p pos small a (g .good) q (page-stopped {v = v} {u = u} {w = w} {m = m} {i = i} {k = k} before after d); gapless = g .gapless; neat = subst (All-neat sum p) (sym e) (g .neat); shows = same-shows v u m a e (g .shows) }
+      record {
+        good = step sum fits p pos small a (g .good) q (page-stopped {v = v} {u = u} {w = w} {m = m} {i = i} {k = k} before after d);
+        gapless =
+            g .gapless;
+        neat = subst (All-neat sum p) (sym e) (g .neat);
+        shows = same-shows v u m a e (g .shows);
+      }
   calm-step a g q c (opening-stopped tip page e d) = absurd c
   calm-step a g q c (append-stopped are d) = absurd c
   calm-step a g q c (sync-stopped d) = absurd c

@@ -22,7 +22,8 @@ pub ran-split : (v u : BlobValue) (a b : List Op) → Carried v (a ++ b) u (Ok t
 ran-split v u [] b d = (v, (refl, d))
 ran-split v u (op ∷ a) b d = let x = ran-split (d .0) u a b (d .1 .2) in (x .0, ((d .0, (d .1 .0, d .1 .1, x .1 .0)), x .1 .1))
 
-pub stopped-split : (v u : BlobValue) (k : StateRefusal) (a b : List Op) → Carried v (a ++ b) u (Err k) → Carried v a u (Err k) ⊎ ((m : BlobValue) × (Carried v a m (Ok tt) × Carried m b u (Err k)))
+pub stopped-split : (v u : BlobValue) (k : StateRefusal) (a b : List Op) → Carried v (a ++ b) u (Err k)
+    → Carried v a u (Err k) ⊎ ((m : BlobValue) × (Carried v a m (Ok tt) × Carried m b u (Err k)))
 stopped-split v u k [] b d = inr (v, (refl, d))
 stopped-split v u k (op ∷ a) b (inl d) = inl (inl d)
 stopped-split v u k (op ∷ a) b (inr d) = ⊎-elim
@@ -38,7 +39,8 @@ module _ (P : BlobValue → Type 0) (v u : BlobValue) (here : P v) where
   write-stop o bs PageRejected f d = absurd d
   write-stop o bs PagePastEnd f d = absurd d
 
-  pub read-stop : (o n : ℕ) (k : StateRefusal) → ((before after : List ℕ) (r : Result (Unit {0}) Fault) → Read v o before after u r → P u) → Read-stopped v o n u k → P u
+  pub read-stop : (o n : ℕ) (k : StateRefusal) → ((before after : List ℕ) (r : Result (Unit {0}) Fault) → Read v o before after u r → P u)
+      → Read-stopped v o n u k → P u
   read-stop o n PagePastEnd f d = subst P (sym (d .1)) here
   read-stop o n (CallFailed c at) f d = let x = d .1 .2 in f (x .1 .0) (x .1 .1) (Err (x .0)) (x .1 .3)
   read-stop o n PageRejected f d = absurd d
@@ -72,15 +74,23 @@ module _ (sum : List ℕ → ℕ) (p : ℕ) (promise : List Place) (v : BlobValu
 
   stored : (m x : BlobValue) → Write-done v m o bs → Sound x → Settle-done m x → Stage sum p promise (overwritten (v .shown) o bs) x
   stored m x done s fixed =
-      record { sound = s; settled = fixed .settled; guard = settle-keeps sum p m x promise (Ok tt) s fixed (g m (Ok tt) done); shows = fixed .shows ∙ done .shows }
+      record {
+        sound = s;
+        settled = fixed .settled;
+        guard = settle-keeps sum p m x promise (Ok tt) s fixed (g m (Ok tt) done);
+        shows = fixed .shows
+            ∙ done .shows;
+      }
 
-  pub two-ran : (u : BlobValue) (ops : List Op) → Carried v (writes o bs ∷ settles ∷ ops) u (Ok tt) → (x : BlobValue) × (Stage sum p promise (overwritten (v .shown) o bs) x × Carried x ops u (Ok tt))
+  pub two-ran : (u : BlobValue) (ops : List Op) → Carried v (writes o bs ∷ settles ∷ ops) u (Ok tt)
+      → (x : BlobValue) × (Stage sum p promise (overwritten (v .shown) o bs) x × Carried x ops u (Ok tt))
   two-ran u ops d = let e = d .1 .2 in (e .0, (stored (d .0) (e .0) (d .1 .1) (e .1 .0) (e .1 .1), e .1 .2))
 
   pub two-stopped : (u : BlobValue) (k : StateRefusal) (ops : List Op) → Carried v (writes o bs ∷ settles ∷ ops) u (Err k)
       → (Sound u × Guard sum p u promise) ⊎ ((x : BlobValue) × (Stage sum p promise (overwritten (v .shown) o bs) x × Carried x ops u (Err k)))
   two-stopped u k ops (inl d) = inl (d .0, write-stop (λ x. Guard sum p x promise) v u now o bs k (g u) (d .1))
   two-stopped u k ops (inr d) = ⊎-elim
-      (λ y. let z = fault-stop settle-call 0 (λ fault. Settling (d .0) u (Err fault)) k (y .1) in inl (y .0, settle-keeps sum p (d .0) u promise (Err (z .0)) (y .0) (z .1) (g (d .0) (Ok tt) (d .1 .1))))
+      (λ y. let z = fault-stop settle-call 0 (λ fault. Settling (d .0) u (Err fault)) k (y .1) in
+      inl (y .0, settle-keeps sum p (d .0) u promise (Err (z .0)) (y .0) (z .1) (g (d .0) (Ok tt) (d .1 .1))))
       (λ e. inr (e .0, (stored (d .0) (e .0) (d .1 .1) (e .1 .0) (e .1 .1), e .1 .2)))
       (d .1 .2)

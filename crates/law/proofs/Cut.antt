@@ -33,7 +33,7 @@ use Rattle.law.specs.Log.{Place, byte, gap, page-place}
 use Rattle.law.proofs.Carrying.{fault-stop}
 use Rattle.law.proofs.Guard.{Backed, Firm, Guard}
 use Rattle.law.proofs.Kept.{resize-keeps, slot-behind, slot-within, slots-apart, write-slot}
-use Rattle.law.proofs.Open.{Cutted, cut-long, cut-neat, cut-page}
+use Rattle.law.proofs.Open.{Cut-to, cut-long, cut-neat, cut-page}
 use Rattle.law.proofs.Opening.{place-covered}
 use Rattle.law.proofs.Places.{page-byte, page-long, slot-inside, start-less, start-more}
 use Rattle.law.proofs.Slots.{Valid, slot-of, slot-start}
@@ -94,10 +94,19 @@ module _ (sum : List ℕ → ℕ) (p : ℕ) (pos : 0 < p) (v : BlobValue) (w : W
   resized-guard u r d = resize-keeps sum p v u promise (pages-for p n) r (λ q b e. omega (arith, few q b e, up-to)) d (i .guard)
 
   cut-by : (b : Bool) → count-stays p n w ≡ b → (u : BlobValue) → Carried v (cond b [] (resizes (start p (pages-for p n)) ∷ [])) u (Ok tt)
-      → Cutted sum p v u (pages-for p n) promise × (u .shown ≡ cond b (v .shown) (resized (v .shown) (start p (pages-for p n))))
-  cut-by true e u d = subst (λ y. Cutted sum p v y (pages-for p n) promise × (y .shown ≡ v .shown)) (sym d)
-      (record { sound = i .sound; firm = firm; guard = i .guard; long = counted (w .flushed) (i .flushed) ∙ ap (start p) (sym (eqb-true (pages-for p n) (page-count (w .page) (w .flushed)) e)); page = λ _ _. refl }, refl)
-  cut-by false e u d = subst (λ y. Cutted sum p v y (pages-for p n) promise × (y .shown ≡ resized (v .shown) (start p (pages-for p n)))) (sym (d .1 .2))
+      → Cut-to sum p v u (pages-for p n) promise × (u .shown ≡ cond b (v .shown) (resized (v .shown) (start p (pages-for p n))))
+  cut-by true e u d = subst (λ y. Cut-to sum p v y (pages-for p n) promise × (y .shown ≡ v .shown)) (sym d) (
+    record {
+      sound = i .sound;
+      firm = firm;
+      guard = i .guard;
+      long = counted (w .flushed) (i .flushed)
+          ∙ ap (start p) (sym (eqb-true (pages-for p n) (page-count (w .page) (w .flushed)) e));
+      page = λ _ _. refl;
+    },
+    refl,
+  )
+  cut-by false e u d = subst (λ y. Cut-to sum p v y (pages-for p n) promise × (y .shown ≡ resized (v .shown) (start p (pages-for p n)))) (sym (d .1 .2))
       (let done : Resize-done v (d .0) (start p (pages-for p n)) = d .1 .1 in
       let long : length (d .0 .shown) ≡ start p (pages-for p n) = ap length (done .shows) ∙ cut-long p (v .shown) (pages-for p n) inside in (
         record {
@@ -110,17 +119,18 @@ module _ (sum : List ℕ → ℕ) (p : ℕ) (pos : 0 < p) (v : BlobValue) (w : W
         done .shows,
       ))
 
-  pub cut-ran : (u : BlobValue) → Carried v (resize-row p n w) u (Ok tt) → Cutted sum p v u (pages-for p n) promise × (u .shown ≡ resize-shows p n w (v .shown))
+  pub cut-ran : (u : BlobValue) → Carried v (resize-row p n w) u (Ok tt) → Cut-to sum p v u (pages-for p n) promise × (u .shown ≡ resize-shows p n w (v .shown))
   cut-ran = cut-by (count-stays p n w) refl
 
   pub cut-stopped : (u : BlobValue) (k : StateRefusal) → Carried v (resize-row p n w) u (Err k) → Sound u × Guard sum p u promise
   cut-stopped u k = cond-both (count-stays p n w) [] (resizes (start p (pages-for p n)) ∷ []) (λ ops. Carried v ops u (Err k) → Sound u × Guard sum p u promise)
       (λ _ d. absurd d)
       (λ _ d. ⊎-elim
-      (λ z. let x = fault-stop resize-call (start p (pages-for p n)) (λ fault. Resized v (start p (pages-for p n)) u (Err fault)) k (z .1) in (z .0, resized-guard u (Err (x .0)) (x .1)))
+      (λ z. let x = fault-stop resize-call (start p (pages-for p n)) (λ fault. Resized v (start p (pages-for p n)) u (Err fault)) k (z .1) in
+      (z .0, resized-guard u (Err (x .0)) (x .1)))
       (λ z. absurd (z .1 .2)) d)
 
-  pub cut-all-neat : (u : BlobValue) → Cutted sum p v u (pages-for p n) promise → All-neat sum p (v .shown) → All-neat sum p (u .shown)
+  pub cut-all-neat : (u : BlobValue) → Cut-to sum p v u (pages-for p n) promise → All-neat sum p (v .shown) → All-neat sum p (u .shown)
   cut-all-neat u c = cut-neat sum p (v .shown) (u .shown) (pages-for p n) (c .long) inside (c .page)
 
   -- the mark is Clean only where nothing was resized
@@ -138,7 +148,8 @@ module _ (sum : List ℕ → ℕ) (p : ℕ) (pos : 0 < p) (v : BlobValue) (w : W
     long = length-take n log ∙ omega (arith, i .tracks .long, split);
     in-tip = λ k h. getD-take n log (n / p * p + k) gap (omega (arith, split)) ∙ at k (omega arith);
     in-page = λ a j h q.
-        getD-take n log (a * p + j) gap (omega (arith, split, mul-add-lt a p j (n / p) h q)) ∙ i .tracks .in-page a j (omega (arith, in-pages)) q ∙ ap (λ x. page-place sum x j) (sym (same a h));
+        getD-take n log (a * p + j) gap (omega (arith, split, mul-add-lt a p j (n / p) h q)) ∙ i .tracks .in-page a j (omega (arith, in-pages)) q
+        ∙ ap (λ x. page-place sum x j) (sym (same a h));
   }
 
   pub even-kept : n % p ≡ 0 → Kept sum p v (even-plan p n w) (take n log) promise
@@ -165,18 +176,23 @@ module _ (sum : List ℕ → ℕ) (p : ℕ) (pos : 0 < p) (v : BlobValue) (w : W
   cut-inside = omega (arith, short .0, start-up (n / p) (w .page) in-pages)
 
   -- a byte of the log in the page that n lies in
-  at-tip : (f : Option ActiveChecksum) → Flushed sum p (v .shown) (w .page) (w .tip) f → Even (w .tip) f → (k : ℕ) → k < length (w .tip) → getD log (w .page * p + k) gap ≡ byte (getD (page-at p (v .shown) (w .page)) k 0)
+  at-tip : (f : Option ActiveChecksum) → Flushed sum p (v .shown) (w .page) (w .tip) f → Even (w .tip) f → (k : ℕ) → k < length (w .tip)
+      → getD log (w .page * p + k) gap ≡ byte (getD (page-at p (v .shown) (w .page)) k 0)
   at-tip None e q k h = absurd (omega (arith, q))
   at-tip (Some x) e q k h = i .tracks .in-tip k h ∙ ap byte (sym (page-byte p (v .shown) (w .page) k (omega (arith, short .1)) ∙ e .same k (omega (arith, q))))
 
-  pub log-there : (k : ℕ) → k < n % p → k < cover sum (page-at p (v .shown) (n / p)) → getD log (n / p * p + k) gap ≡ byte (getD (page-at p (v .shown) (n / p)) k 0)
+  pub log-there : (k : ℕ) → k < n % p → k < cover sum (page-at p (v .shown) (n / p))
+      → getD log (n / p * p + k) gap ≡ byte (getD (page-at p (v .shown) (n / p)) k 0)
   log-there k h c = ⊎-elim
-      (λ (e : n / p ≡ w .page). subst (λ x. getD log (x * p + k) gap ≡ byte (getD (page-at p (v .shown) x) k 0)) (sym e) (at-tip (w .flushed) (i .flushed) even k (omega (arith, tip-over e))))
-      (λ (e : n / p ≡ w .page → ⊥). i .tracks .in-page (n / p) k (omega (arith, in-pages)) (omega (arith, rest)) ∙ place-covered sum (page-at p (v .shown) (n / p)) k c)
+      (λ (e : n / p ≡ w .page). subst (λ x. getD log (x * p + k) gap ≡ byte (getD (page-at p (v .shown) x) k 0)) (sym e)
+      (at-tip (w .flushed) (i .flushed) even k (omega (arith, tip-over e))))
+      (λ (e : n / p ≡ w .page → ⊥). i .tracks .in-page (n / p) k (omega (arith, in-pages)) (omega (arith, rest))
+      ∙ place-covered sum (page-at p (v .shown) (n / p)) k c)
       (cases-eq (n / p) (w .page))
 
   -- the other slot's writes, where the slot a is valid and covers all of the promise in its page
-  module _ (u : BlobValue) (a : Slot) (f : Firm u) (g : Guard sum p u promise) (good : Valid sum p (page-at p (u .shown) (n / p)) a) (r : n % p ≤ slot-of p (page-at p (u .shown) (n / p)) a .len) where
+  module _ (u : BlobValue) (a : Slot) (f : Firm u) (g : Guard sum p u promise) (good : Valid sum p (page-at p (u .shown) (n / p)) a)
+      (r : n % p ≤ slot-of p (page-at p (u .shown) (n / p)) a .len) where
     by-slot : (j b : ℕ) → j < p → getD promise (n / p * p + j) gap ≡ byte b → Backed sum p u (n / p) j b a
     by-slot j b h e =
         let x = g (n / p) j b h e in
@@ -192,7 +208,8 @@ module _ (sum : List ℕ → ℕ) (p : ℕ) (pos : 0 < p) (v : BlobValue) (w : W
           firm-slot = λ k l. f (start p (n / p) + (slot-start p a + k)) (omega (arith, slot-inside p a k l));
         }
 
-    pub slot-guard : (b : Slot) → other-slot a ≡ b → (bs : List ℕ) → length bs ≤ 6 → (y : BlobValue) (q : Result (Unit {0}) Fault) → Wrote u (start p (n / p) + slot-start p b) bs y q → Guard sum p y promise
+    pub slot-guard : (b : Slot) → other-slot a ≡ b → (bs : List ℕ) → length bs ≤ 6 → (y : BlobValue) (q : Result (Unit {0}) Fault)
+        → Wrote u (start p (n / p) + slot-start p b) bs y q → Guard sum p y promise
     slot-guard b e bs l y q d = write-slot sum p u y promise (n / p) a bs q l by-slot (subst (λ x. Wrote u (start p (n / p) + slot-start p x) bs y q) (sym e) d) g
 
 -- the bytes after a write into one slot of the page c
@@ -206,21 +223,23 @@ module _ (p : ℕ) (s : List ℕ) (c : ℕ) (a : Slot) (bs : List ℕ) (few : le
   pub slot-before : (k : ℕ) → k < start p c + p → getD (overwritten s (start p c + slot-start p a) bs) k 0 ≡ getD s k 0
   slot-before k h = over-out s (start p c + slot-start p a) bs from k (inl (omega (arith, slot-behind p a)))
 
-  pub slot-after : (k : ℕ) → start p c + (p + 12) ≤ k → getD (overwritten s (start p c + slot-start p a) bs) k 0 ≡ getD s k 0
-  slot-after k h = over-out s (start p c + slot-start p a) bs from k (inr (omega (arith, slot-within p a)))
-
-  pub slot-beside : (b : Slot) → other-slot b ≡ a → (k : ℕ) → k < 6 → getD (overwritten s (start p c + slot-start p a) bs) (start p c + (slot-start p b + k)) 0 ≡ getD s (start p c + (slot-start p b + k)) 0
+  pub slot-beside : (b : Slot) → other-slot b ≡ a → (k : ℕ) → k < 6 → getD (overwritten s (start p c + slot-start p a) bs)
+      (start p c + (slot-start p b + k)) 0 ≡ getD s (start p c + (slot-start p b + k)) 0
   slot-beside b e k h = over-out s (start p c + slot-start p a) bs from (start p c + (slot-start p b + k))
-      (subst (λ x. (start p c + (slot-start p b + k) < start p c + slot-start p x) ⊎ (start p c + slot-start p x + length bs ≤ start p c + (slot-start p b + k))) e (slots-apart p b k h (start p c) (length bs) few))
+      (subst (λ x. (start p c + (slot-start p b + k) < start p c + slot-start p x) ⊎
+      (start p c + slot-start p x + length bs ≤ start p c + (slot-start p b + k))) e (slots-apart p b k h (start p c) (length bs) few))
 
   pub slot-new : (k : ℕ) → k < length bs → getD (overwritten s (start p c + slot-start p a) bs) (start p c + (slot-start p a + k)) 0 ≡ getD bs k 0
-  slot-new k h = over-in s (start p c + slot-start p a) bs from (start p c + (slot-start p a + k)) (omega arith) (omega arith) ∙ ap (λ m. getD bs m 0) (omega arith)
+  slot-new k h = over-in s (start p c + slot-start p a) bs from (start p c + (slot-start p a + k)) (omega arith) (omega arith)
+      ∙ ap (λ m. getD bs m 0) (omega arith)
 
-  pub slot-rest : (k : ℕ) → length bs ≤ k → getD (overwritten s (start p c + slot-start p a) bs) (start p c + (slot-start p a + k)) 0 ≡ getD s (start p c + (slot-start p a + k)) 0
+  pub slot-rest : (k : ℕ) → length bs ≤ k → getD (overwritten s (start p c + slot-start p a) bs) (start p c + (slot-start p a + k)) 0 ≡ getD s
+      (start p c + (slot-start p a + k)) 0
   slot-rest k h = over-out s (start p c + slot-start p a) bs from (start p c + (slot-start p a + k)) (inr (omega arith))
 
 -- a page of t, where t agrees with s up to the end of the page's data
-module _ (p : ℕ) (s t : List ℕ) (c : ℕ) (in-s : start p c + (p + 12) ≤ length s) (in-t : start p c + (p + 12) ≤ length t) (same : (k : ℕ) → k < start p c + p → getD t k 0 ≡ getD s k 0) where
+module _ (p : ℕ) (s t : List ℕ) (c : ℕ) (in-s : start p c + (p + 12) ≤ length s) (in-t : start p c + (p + 12) ≤ length t)
+    (same : (k : ℕ) → k < start p c + p → getD t k 0 ≡ getD s k 0) where
   pub data-stays : (k : ℕ) → k < p → getD (page-at p t c) k 0 ≡ getD (page-at p s c) k 0
   data-stays k h = page-byte p t c k (omega arith) ∙ same (start p c + k) (omega arith) ∙ sym (page-byte p s c k (omega arith))
 

@@ -1,17 +1,20 @@
 -- The line that is worked out.
-use mathlib.Core.Bool.{Bool, _&&_, false, true}
+use mathlib.Core.Bool.{Bool, _&&_, _||_, not, false, true}
 use mathlib.Core.List.{List, [], _∷_}
-use mathlib.Core.Path.{_≡_, refl}
-use Prim.Native.Nat.{_+_, _≤_, suc, zero, ℕ}
+use mathlib.Core.Logic.{inl, inr, ⊎-elim}
+use mathlib.Core.Path.{_∙_, _≡_, refl, sym}
+use Prim.Native.Nat.{_+_, _<_, _≤_, suc, zero, ℕ}
 use native.Mathlib.Omega.{arith}
-use lib.Dec.{ltb}
-use lib.ListN.{length}
-use Rattle.std.proofs.shelf.Tests.{and-parts, lt-ltb, ltb-true}
+use lib.Dec.{eqb, ltb}
+use lib.ListN.{getD, length}
+use Rattle.std.proofs.shelf.Lists.{getD-past}
+use Rattle.std.proofs.shelf.Tests.{and-from, and-parts, both-ways, eq-eqb, eqb-false, eqb-true, lt-ltb, ltb-true, not-true, or-cases}
 use Rattle.std.specs.declared.option.Option.the-variants.{None, Some}
 use Rattle.checks.specs.Older.{older-sum}
 use Rattle.blob.proofs.Pieces.{over-length}
-use Rattle.blob.specs.Calls.{Restarted, Settle-done, Write-done, overwritten}
-use Rattle.blob.specs.Value.{Settled, Sound}
+use Rattle.blob.specs.declared.Fault.the-variants.{Failed}
+use Rattle.blob.specs.Calls.{Restarted, Settle-done, Write-cut, Write-done, overwritten}
+use Rattle.blob.specs.Value.{BlobValue, Settled, Sound}
 use Rattle.page.specs.Layout.{page-at, start}
 use Rattle.page.specs.Verdict.{cover}
 use Rattle.page.specs.declared.slot.ActiveChecksum.{ActiveChecksum}
@@ -24,11 +27,13 @@ use Rattle.plan.specs.Open.{empty-at, open-plan, pages-kept, scan-row}
 use Rattle.plan.specs.State.{WriterState, with-tip}
 use Rattle.plan.specs.Sync.{sync-plan}
 use Rattle.plan.specs.Truncate.{behind-sync, cut-plan}
-use Rattle.law.specs.Events.{Bytes, accepted, append, opening, restart, sync, truncate}
-use Rattle.law.specs.Example.{Example, three, through, two}
+use Rattle.paged.specs.declared.refusal.BlobCall.the-variants.{Write as write-call}
+use Rattle.paged.specs.declared.refusal.StateRefusal.the-variants.{CallFailed}
+use Rattle.law.specs.Events.{Bytes, accepted, append, opening, refused-state, restart, sync, truncate}
+use Rattle.law.specs.Example.{Example, four, three, through, torn, two}
 use Rattle.law.specs.Law.{begin}
-use Rattle.law.specs.Lines.{Step, appends, at, held, none, opens, recovering, restarts, syncs, then, truncates}
-use Rattle.law.specs.Log.{full-rows, opened-log, page-place, page-places, pages-log}
+use Rattle.law.specs.Lines.{Step, appends, at, held, none, opens, recovering, restarts, sync-stopped, syncs, then, truncates}
+use Rattle.law.specs.Log.{byte, full-rows, opened-log, page-place, page-places, pages-log}
 
 -- bytes that can be looked through
 small : List ℕ → Bool
@@ -124,9 +129,11 @@ step-open : Step older-sum 4 (begin (through [])) (opening 8 0) accepted (at (th
 unfolding start cover page-at scan-row pages-kept open-plan
 step-open = opens {v = through []} {u = through []} {w = None} {wish = 8} {told = 0} 11 16 refl refl
 
-step-append : Step older-sum 4 (at (through []) (held recovering opened) false) (append (1 ∷ 2 ∷ 3 ∷ [])) accepted (at (through []) (held recovering appended) false)
+step-append : Step older-sum 4 (at (through []) (held recovering opened) false) (append (1 ∷ 2 ∷ 3 ∷ [])) accepted
+    (at (through []) (held recovering appended) false)
 unfolding small flush-plan append-plan
-step-append = appends {v = through []} {u = through []} {phase = recovering} {w = opened} {m = false} {bytes = 1 ∷ 2 ∷ 3 ∷ []} (small-bytes (1 ∷ 2 ∷ 3 ∷ []) refl) refl
+step-append = appends {v = through []} {u = through []} {phase = recovering} {w = opened} {m = false} {bytes = 1 ∷ 2 ∷ 3 ∷ []}
+    (small-bytes (1 ∷ 2 ∷ 3 ∷ []) refl) refl
 
 step-sync : Step older-sum 4 (at (through []) (held recovering appended) false) sync accepted (at (through three) (held recovering synced) true)
 unfolding start part physical-page physical-pages sync-plan
@@ -193,13 +200,92 @@ step-reopen : Step older-sum 4 (at (through two) None true) (opening 8 16) accep
 unfolding start cover page-at scan-row pages-kept open-plan
 step-reopen = opens {v = through two} {u = through two} {w = None} {wish = 8} {told = 16} 11 16 refl (through two, (sound-two, (omega arith, refl, refl), refl))
 
+-- a write that was cut off: at each place the new byte is another, or the old one still stands
+untorn : List ℕ → List ℕ → List ℕ → Bool
+untorn [] old left = true
+untorn (a ∷ new) [] left = true
+untorn (a ∷ new) (b ∷ old) [] = false
+untorn (a ∷ new) (b ∷ old) (c ∷ left) = (not (eqb a b) || eqb c b) && untorn new old left
+
+untorn-bytes : (new old left : List ℕ) → untorn new old left ≡ true → (k : ℕ) → k < length old → k < length new → getD new k 0 ≡ getD old k 0
+    → getD left k 0 ≡ getD old k 0
+unfolding untorn
+untorn-bytes [] old left e k h l q = absurd (omega (arith, l))
+untorn-bytes (a ∷ new) [] left e k h l q = absurd (omega (arith, h))
+untorn-bytes (a ∷ new) (b ∷ old) [] e k h l q = absurd (both-ways false refl e)
+untorn-bytes (a ∷ new) (b ∷ old) (c ∷ left) e zero h l q = ⊎-elim
+    (λ d. absurd (eqb-false a b (not-true (eqb a b) d) q))
+    (λ d. eqb-true c b d)
+    (or-cases (not (eqb a b)) (eqb c b) (and-parts (not (eqb a b) || eqb c b) (untorn new old left) e .0))
+untorn-bytes (a ∷ new) (b ∷ old) (c ∷ left) e (suc k) h l q = untorn-bytes new old left
+    (and-parts (not (eqb a b) || eqb c b) (untorn new old left) e .1) k (omega (arith, h)) (omega (arith, l)) q
+
+abbrev torn-blob : BlobValue
+torn-blob = record { shown = torn; ceiling = 64; firm = λ k. ltb k 16 && eqb (getD four k 0) (getD three k 0); shortest = 16; longest = 16; power = false }
+
+sound-torn : Sound torn-blob
+unfolding small
+sound-torn = record {
+  bytes = small-bytes torn refl;
+  fits = omega arith;
+  ceiling-fits = omega arith;
+  firm-shown = λ k e. ltb-true k 16 (and-parts (ltb k 16) _ e .0);
+  firm-below = λ k e. ltb-true k 16 (and-parts (ltb k 16) _ e .0);
+  ordered = omega arith;
+}
+
+torn-write : Write-cut (through three) torn-blob 0 four
+unfolding untorn
+torn-write = record {
+  down = refl;
+  long = omega arith;
+  short = omega arith;
+  outside = λ k h. ⊎-elim (λ (l : k < 0). absurd (omega arith)) (λ (l : 16 ≤ k). getD-past torn k 0 l ∙ sym (getD-past three k 0 l)) h;
+  firm-bytes = λ k f e. untorn-bytes four three torn refl k (ltb-true k 16 f) (ltb-true k 16 f) e;
+  keeps = record { ceiling = refl; firm = λ k f e. and-from (ltb k 16) _ f (eq-eqb _ _ e); shortest = omega arith; longest = omega arith };
+}
+
+sound-after : Sound (through torn)
+unfolding small
+sound-after = sound torn (small-bytes torn refl) (omega arith)
+
+abbrev grown : WriterState
+grown = with-tip synced (1 ∷ 2 ∷ 3 ∷ 4 ∷ [])
+
+step-grow : Step older-sum 4 (at (through three) (held recovering synced) true) (append (4 ∷ [])) accepted (at (through three) (held recovering grown) false)
+unfolding small flush-plan append-plan
+step-grow = appends {v = through three} {u = through three} {phase = recovering} {w = synced} {m = true} {bytes = 4 ∷ []} (small-bytes (4 ∷ []) refl) refl
+
+step-torn : Step older-sum 4 (at (through three) (held recovering grown) false) sync (refused-state (CallFailed write-call 0)) (at torn-blob None false)
+unfolding start part physical-page physical-pages sync-plan
+step-torn = sync-stopped {v = through three} {u = torn-blob} {phase = recovering} {w = grown} {m = false} {k = CallFailed write-call 0}
+    (inl (sound-torn, (omega arith, (refl, refl, (Failed, ((omega arith, omega arith), inr (refl, torn-write)))))))
+
+step-after : Step older-sum 4 (at torn-blob None false) restart accepted (at (through torn) None true)
+step-after = restarts {v = torn-blob} {u = through torn} {w = None} {m = false}
+    (record { stands = record { long = omega arith; short = omega arith; firm = λ k e. refl }; settled = settled torn; up = refl; ceiling = refl })
+
+step-again : Step older-sum 4 (at (through torn) None true) (opening 8 16) accepted (at (through torn) (held recovering (open-plan older-sum 4 8 torn .to)) false)
+unfolding start cover page-at scan-row pages-kept open-plan
+step-again = opens {v = through torn} {u = through torn} {w = None} {wish = 8} {told = 16} 11 16 refl
+    (through torn, (sound-after, (omega arith, refl, refl), refl))
+
 pub example : Example
 unfolding start page-at cover scan-row pages-kept page-place page-places full-rows pages-log opened-log
 example = record {
   head = record { sound = sound-none; settled = settled [] };
   end = at (through two) (held recovering (open-plan older-sum 4 8 two .to)) false;
-  line = then step-open sound-none (then step-append sound-none (then step-sync sound-three (then step-truncate sound-two (then step-restart sound-two (then step-reopen sound-two none)))));
+  line = then step-open sound-none (then step-append sound-none (then step-sync sound-three
+      (then step-truncate sound-two (then step-restart sound-two (then step-reopen sound-two none)))));
   log = refl;
   promise = refl;
-  can-fail = λ h. let e = h 1 2 refl in let z : _≡_ {A = ℕ} 0 1 = cc in omega arith;
+  torn-end = at (through torn) (held recovering (open-plan older-sum 4 8 torn .to)) false;
+  torn-line = then step-open sound-none (then step-append sound-none
+      (then step-sync sound-three (then step-grow sound-three (then step-torn sound-torn
+      (then step-after sound-after (then step-again sound-after none))))));
+  torn-log = refl;
+  holds-can-fail = λ h. let e = h 1 2 refl in let z : _≡_ {A = ℕ} 0 1 = cc in omega arith;
+  shows-can-fail = λ h. let e : byte 1 ∷ byte 2 ∷ [] ≡ byte 1 ∷ byte 2 ∷ byte 3 ∷ [] = h .opened in let z : _≡_ {A = ℕ} 0 1 = cc in omega arith;
+  altered-can-fail = λ h. let e : 3 ≤ 0 = h .uncovered in omega arith;
+  settled-can-fail = λ h. let e = h .shortest in omega arith;
 }

@@ -76,7 +76,8 @@ module _ (sum : List ℕ → ℕ) (p : ℕ) (v u : BlobValue) (promise : List Pl
   read-keeps o before after r d = all-left (read-leaves v u _ _ o before after r d)
 
   pub settle-keeps : (r : Result (Unit {0}) Fault) → Sound u → Settling v u r → Guard sum p v promise → Guard sum p u promise
-  settle-keeps (Ok x) s d g = guarded sum p u promise s (d .settled .firm) (subst (λ t. Stands sum p t promise) (sym (d .shows)) (standing-here sum p v promise g))
+  settle-keeps (Ok x) s d g = guarded sum p u promise s (d .settled .firm)
+      (subst (λ t. Stands sum p t promise) (sym (d .shows)) (standing-here sum p v promise g))
   settle-keeps (Err Refused) s d g = absurd d
   settle-keeps (Err Failed) s d g = all-left (fails-leaves v u _ _ d) g
 
@@ -91,14 +92,16 @@ module _ (sum : List ℕ → ℕ) (p : ℕ) (v u : BlobValue) (promise : List Pl
 
   -- a write that leaves the places of a guard
   by-write : (o : ℕ) (bs : List ℕ) (r : Result (Unit {0}) Fault) → Wrote v o bs u r → Guard sum p v promise
-      → (o ≤ length (v .shown) → (i j b : ℕ) → j < p → getD promise (i * p + j) gap ≡ byte b → Spared (length (v .shown)) (Same-byte v o bs) i j b) → Guard sum p u promise
+      → (o ≤ length (v .shown) → (i j b : ℕ) → j < p → getD promise (i * p + j) gap ≡ byte b → Spared (length (v .shown)) (Same-byte v o bs) i j b)
+      → Guard sum p u promise
   by-write o bs r d g f = ⊎-elim
       (λ from. spared (length (v .shown)) (Same-byte v o bs) (write-leaves v u o bs r d) (f from))
       (λ e. subst (λ x. Guard sum p x promise) (sym e) g)
       (wrote-from o bs r d)
 
   -- a write at the end or behind it
-  pub write-behind : (o : ℕ) (bs : List ℕ) (r : Result (Unit {0}) Fault) → length (v .shown) ≤ o → Wrote v o bs u r → Guard sum p v promise → Guard sum p u promise
+  pub write-behind : (o : ℕ) (bs : List ℕ) (r : Result (Unit {0}) Fault) → length (v .shown) ≤ o → Wrote v o bs u r → Guard sum p v promise
+      → Guard sum p u promise
   write-behind o bs r far d g = by-write o bs r d g
       (λ from i j b h e.
       let x = g i j b h e in
@@ -113,7 +116,8 @@ module _ (sum : List ℕ → ℕ) (p : ℕ) (v u : BlobValue) (promise : List Pl
       })
 
   -- a write from the last page on that keeps the slot that counts there, and what it covers
-  pub write-last : (c : ℕ) (w : Slot) (bs : List ℕ) (r : Result (Unit {0}) Fault) → Sound v → Firm v → start p c + (p + 12) ≡ length (v .shown) → p + 12 ≤ length bs
+  pub write-last : (c : ℕ) (w : Slot) (bs : List ℕ) (r : Result (Unit {0}) Fault) → Sound v → Firm v → start p c + (p + 12) ≡ length (v .shown)
+      → p + 12 ≤ length bs
       → Valid sum p (page-at p (v .shown) c) w → cover sum (page-at p (v .shown) c) ≡ slot-of p (page-at p (v .shown) c) w .len
       → ((k : ℕ) → k < slot-of p (page-at p (v .shown) c) w .len → getD bs k 0 ≡ getD (v .shown) (start p c + k) 0)
       → ((k : ℕ) → k < 6 → getD bs (slot-start p w + k) 0 ≡ getD (v .shown) (start p c + (slot-start p w + k)) 0)

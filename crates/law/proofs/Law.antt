@@ -40,9 +40,16 @@ promises-open c hands-over = absurd c
 promises-open c (reads-page before after x d) = absurd c
 promises-open c (restarts d) = absurd c
 
-last-open : (sum : List ℕ → ℕ) (p : ℕ) (s end : LineState) (before : List Event) (call : Call) (bs : List ℕ) → Promises call → Line sum p s (before ++ (event call accepted bs ∷ [])) end → (end .may-open ≡ true) × (end .blob .shown ≡ bs)
+last-open : (sum : List ℕ → ℕ) (p : ℕ) (s end : LineState) (before : List Event) (call : Call) (bs : List ℕ) → Promises call
+    → Line sum p s (before ++ (event call accepted bs ∷ [])) end → (end .may-open ≡ true) × (end .blob .shown ≡ bs)
 last-open sum p s end [] call bs c (then d q none) = (promises-open c d, refl)
 last-open sum p s end (e ∷ before) call bs c (then d q l) = last-open sum p _ end before call bs c l
+
+-- a line that ends with an event of a line
+shorter : (sum : List ℕ → ℕ) (p : ℕ) (before after : List Event) (e : Event) (s end : LineState) → Line sum p s (before ++ (e ∷ after)) end
+    → (mid : LineState) × Line sum p s (before ++ (e ∷ [])) mid
+shorter sum p [] after e s end (then {t = t} d q l) = (t, then d q none)
+shorter sum p (x ∷ before) after e s end (then {t = t} d q l) = let y = shorter sum p before after e t end l in (y .0, then d q (y .1))
 
 -- calm to the end
 calm-last : (before : List Event) (call : Call) (bs : List ℕ) → Calm before → Promises call → Calm (before ++ (event call accepted bs ∷ []))
@@ -72,7 +79,8 @@ no-promise : (sum : List ℕ → ℕ) (p : ℕ) (v : BlobValue) → Guard sum p 
 no-promise sum p v i j b h e = absurd (let z : _≡_ {A = ℕ} 0 1 = cc in omega arith)
 
 -- one altered byte
-module _ (sum : List ℕ → ℕ) (law : Tells-one sum) (p : ℕ) (small : p ≤ 65535) (v : BlobValue) (sound : Sound v) (neat : All-neat sum p (v .shown)) (i j b : ℕ) (inside : i < whole-pages p (v .shown)) (covered : j < cover sum (page-at p (v .shown) i))
+module _ (sum : List ℕ → ℕ) (law : Tells-one sum) (p : ℕ) (small : p ≤ 65535) (v : BlobValue) (sound : Sound v) (neat : All-neat sum p (v .shown))
+    (i j b : ℕ) (inside : i < whole-pages p (v .shown)) (covered : j < cover sum (page-at p (v .shown) i))
     (fits : b < 256) (other : b ≡ getD (v .shown) (start p i + j) 0 → ⊥) where
   abbrev t : List ℕ
   t = set (v .shown) (start p i + j) b
@@ -88,18 +96,22 @@ module _ (sum : List ℕ → ℕ) (law : Tells-one sum) (p : ℕ) (small : p ≤
 
   bytes-after : Bytes t
   bytes-after k = ⊎-elim
-      (λ (e : k ≡ start p i + j). subst (λ m. getD t m 0 < 256) (sym e) (subst (λ m. m < 256) (sym (getD-set-same (v .shown) (start p i + j) b 0 (omega (arith, whole, few)))) fits))
+      (λ (e : k ≡ start p i + j). subst (λ m. getD t m 0 < 256) (sym e)
+      (subst (λ m. m < 256) (sym (getD-set-same (v .shown) (start p i + j) b 0 (omega (arith, whole, few)))) fits))
       (λ (e : k ≡ start p i + j → ⊥). subst (λ m. m < 256) (sym (getD-set-other (v .shown) (start p i + j) k b 0 e)) (sound .bytes k))
       (cases-eq k (start p i + j))
 
   at-page : (k : ℕ) → (k ≡ j → ⊥) → getD (page-at p t i) k 0 ≡ getD (page-at p (v .shown) i) k 0
   at-page k d = ⊎-elim
-      (λ (l : k < p + 12). page-byte p t i k l ∙ getD-set-other (v .shown) (start p i + j) (start p i + k) b 0 (λ e. d (omega (arith, e))) ∙ sym (page-byte p (v .shown) i k l))
-      (λ (l : p + 12 ≤ k). getD-past (page-at p t i) k 0 (omega (arith, page-long p t i whole-after)) ∙ sym (getD-past (page-at p (v .shown) i) k 0 (omega (arith, page-long p (v .shown) i whole))))
+      (λ (l : k < p + 12). page-byte p t i k l ∙ getD-set-other (v .shown) (start p i + j) (start p i + k) b 0 (λ e. d (omega (arith, e)))
+      ∙ sym (page-byte p (v .shown) i k l))
+      (λ (l : p + 12 ≤ k). getD-past (page-at p t i) k 0 (omega (arith, page-long p t i whole-after))
+      ∙ sym (getD-past (page-at p (v .shown) i) k 0 (omega (arith, page-long p (v .shown) i whole))))
       (cases-lt k (p + 12))
 
   differs : getD (page-at p t i) j 0 ≡ getD (page-at p (v .shown) i) j 0 → ⊥
-  differs e = other (sym (getD-set-same (v .shown) (start p i + j) b 0 (omega (arith, whole, few))) ∙ sym (page-byte p t i j (omega (arith, few))) ∙ e ∙ page-byte p (v .shown) i j (omega (arith, few)))
+  differs e = other (sym (getD-set-same (v .shown) (start p i + j) b 0 (omega (arith, whole, few))) ∙ sym (page-byte p t i j (omega (arith, few))) ∙ e
+      ∙ page-byte p (v .shown) i j (omega (arith, few)))
 
   uncovered : cover sum (page-at p t i) ≤ j
   uncovered = altered sum law p small (page-at p (v .shown) i) (page-at p t i) (page-long p (v .shown) i whole) (page-long p t i whole-after)
@@ -108,7 +120,8 @@ module _ (sum : List ℕ → ℕ) (law : Tells-one sum) (p : ℕ) (small : p ≤
   told : Tells-altered sum p (v .shown) i j b
   told = record {
     uncovered = uncovered;
-    no-byte = ⊎-elim (λ e. e) (λ x. absurd (let s = opened-stands sum p t i j (x .0) few (x .1) in omega (arith, s .covered, uncovered))) (either-place (getD (opened-log sum p t) (i * p + j) gap));
+    no-byte = ⊎-elim (λ e. e) (λ x. absurd (let s = opened-stands sum p t i j (x .0) few (x .1) in omega (arith, s .covered, uncovered)))
+        (either-place (getD (opened-log sum p t) (i * p + j) gap));
   }
 
 module _ (sum : List ℕ → ℕ) (fits : Fits-four sum) (p : ℕ) (pos : 0 < p) (small : p ≤ 65535) where
@@ -124,13 +137,16 @@ module _ (sum : List ℕ → ℕ) (fits : Fits-four sum) (p : ℕ) (pos : 0 < p)
     shows = λ _. exactly sum p (v .shown) pos 0 (ap length e ∙ sym (start-zero p)) (λ i l. absurd (omega arith)) (λ m q. absurd (omega (arith, q))) [] refl;
   }
 
-  ends : (v : BlobValue) → Head v → v .shown ≡ [] → (before : List Event) → Calm before → (call : Call) → Promises call → (s : List ℕ) (end : LineState) → Line sum p (begin v) (before ++ (event call accepted s ∷ [])) end
+  ends : (v : BlobValue) → Head v → v .shown ≡ [] → (before : List Event) → Calm before → (call : Call) → Promises call
+      → (s : List ℕ) (end : LineState) → Line sum p (begin v) (before ++ (event call accepted s ∷ [])) end
       → Whole sum fits p pos small end (account sum p (before ++ (event call accepted s ∷ [])))
-  ends v h e before c call q s end l = calm-end sum fits p pos small (begin v) end (record { log = []; promise = [] }) (before ++ (event call accepted s ∷ [])) (empty v h e) (calm-last before call s c q) l
+  ends v h e before c call q s end l = calm-end sum fits p pos small (begin v) end (record { log = []; promise = [] })
+      (before ++ (event call accepted s ∷ [])) (empty v h e) (calm-last before call s c q) l
 
   pub law : Law sum p
   law = record {
-    openings-hold = λ v h before after wish told s end l. along sum fits p pos small (begin v) end (record { log = []; promise = [] }) before after wish told s (head v h) l;
+    openings-hold = λ v h before after wish told s end l. along sum fits p pos small (begin v) end
+        (record { log = []; promise = [] }) before after wish told s (head v h) l;
     size-is-log = λ v h es end l w e.
         let x = to-end sum fits p pos small (begin v) end (record { log = []; promise = [] }) es (head v h) l in
         sym (subst (λ y. With-writer sum p (end .blob) y (account sum p es)) e (x .writer) .tracks .long);
@@ -139,15 +155,19 @@ module _ (sum : List ℕ → ℕ) (fits : Fits-four sum) (p : ℕ) (pos : 0 < p)
         let o = last-open sum p (begin v) end before call s c l in
         let z = x .settled (o .0) in
         (z, λ u d. restart-same (end .blob) u z d ∙ o .1);
-    shows-log = λ v h e before c call q s end l.
-        let o = last-open sum p (begin v) end before call s q l in
-        subst (λ y. Shows-log sum p y (account sum p (before ++ (event call accepted s ∷ [])) .log)) (o .1) (ends v h e before c call q s end l .shows (o .0));
-    tells-altered = λ one v h e before c call q s end l i j b inside covered small-byte other.
-        let o = last-open sum p (begin v) end before call s q l in
-        let x = ends v h e before c call q s end l in
+    shows-log = λ v h e before after c call q s end l.
+        let x = shorter sum p before after (event call accepted s) (begin v) end l in
+        let o = last-open sum p (begin v) (x .0) before call s q (x .1) in
+        subst (λ y. Shows-log sum p y (account sum p (before ++ (event call accepted s ∷ [])) .log)) (o .1)
+        (ends v h e before c call q s (x .0) (x .1) .shows (o .0));
+    tells-altered = λ one v h e before after c call q s end l i j b inside covered small-byte other.
+        let x = shorter sum p before after (event call accepted s) (begin v) end l in
+        let o = last-open sum p (begin v) (x .0) before call s q (x .1) in
+        let y = ends v h e before c call q s (x .0) (x .1) in
         let here = sym (o .1) in
-        subst (λ y. Tells-altered sum p y i j b) (o .1)
-        (told sum one p small (end .blob) (x .good .sound) (x .neat) i j b (subst (λ y. i < whole-pages p y) here inside) (subst (λ y. j < cover sum (page-at p y i)) here covered) small-byte
+        subst (λ z. Tells-altered sum p z i j b) (o .1)
+        (told sum one p small (x .0 .blob) (y .good .sound) (y .neat) i j b (subst (λ z. i < whole-pages p z) here inside)
+        (subst (λ z. j < cover sum (page-at p z i)) here covered) small-byte
         (λ z. other (z ∙ ap (λ y. getD y (start p i + j) 0) (o .1))));
   }
 

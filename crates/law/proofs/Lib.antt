@@ -24,3 +24,4 @@ pub mod Lines
 pub mod Calm
 pub mod Law
 pub mod Example
+pub mod Longer

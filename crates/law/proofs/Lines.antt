@@ -85,7 +85,8 @@ fetched P v u h sum p at before after (Err CeilingPassed) f d = absurd d
 firm-same : (v u : BlobValue) → Same v u → Firm v → Firm u
 firm-same v u s f k h = s .firm k (f k (subst (λ x. k < length x) (s .shows) h))
 
-read-writer : (sum : List ℕ → ℕ) (p : ℕ) (v u : BlobValue) (w : Option LineWriter) (a : Account) → Same v u → Sound u → Guard sum p u (a .promise) → With-writer sum p v w a → With-writer sum p u w a
+read-writer : (sum : List ℕ → ℕ) (p : ℕ) (v u : BlobValue) (w : Option LineWriter) (a : Account) → Same v u → Sound u → Guard sum p u (a .promise)
+    → With-writer sum p v w a → With-writer sum p u w a
 read-writer sum p v u None a s q g i = tt
 read-writer sum p v u (Some x) a s q g i =
     let w = x .state in
@@ -108,28 +109,34 @@ module _ (sum : List ℕ → ℕ) (fits : Fits-four sum) (p : ℕ) (pos : 0 < p)
   over : (u : BlobValue) (a : Account) → Sound u × Guard sum p u (a .promise) → Fine (at u None false) a
   over u a x = record { sound = x .0; guard = x .1; writer = tt; settled = λ e. absurd (both-ways false refl e) }
 
-  pub fetched-same : (v u : BlobValue) (start : ℕ) (before after : List ℕ) (r : Result ActiveChecksum StateRefusal) → Sound u → Page-fetched sum p start v before after u r → Same v u
+  pub fetched-same : (v u : BlobValue) (start : ℕ) (before after : List ℕ) (r : Result ActiveChecksum StateRefusal) → Sound u
+      → Page-fetched sum p start v before after u r → Same v u
   fetched-same v u start before after r s d = fetched (Same v) v u (same-none v) sum p start before after r (λ b c q. read-same v u s start b c q) d
 
   -- a page read
-  by-page : (v u : BlobValue) (w : Option LineWriter) (m : Bool) (a : Account) (start : ℕ) (before after : List ℕ) (r : Result ActiveChecksum StateRefusal) → Good sum p v w m a → Sound u
+  by-page : (v u : BlobValue) (w : Option LineWriter) (m : Bool) (a : Account) (start : ℕ) (before after : List ℕ)
+      (r : Result ActiveChecksum StateRefusal) → Good sum p v w m a → Sound u
       → Page-fetched sum p start v before after u r → Good sum p u w m a
   by-page v u w m a start before after r g s d =
       let same = fetched-same v u start before after r s d in
-      let guard = fetched (λ x. Guard sum p x (a .promise)) v u (g .guard) sum p start before after r (λ b c q x. read-keeps sum p v u (a .promise) start b c q x (g .guard)) d in
+      let guard = fetched (λ x. Guard sum p x (a .promise)) v u (g .guard) sum p start before after r
+      (λ b c q x. read-keeps sum p v u (a .promise) start b c q x (g .guard)) d in
       record { sound = s; guard = guard; writer = read-writer sum p v u w a same s guard (g .writer); settled = λ e. same .settled (g .settled e) }
 
-  pub step : {s u : LineState} {call : Call} {outcome : Outcome} (a : Account) → Fine s a → Sound (u .blob) → Step sum p s call outcome u → Fine u (account-by sum p a call outcome (u .blob .shown))
+  pub step : {s u : LineState} {call : Call} {outcome : Outcome} (a : Account) → Fine s a → Sound (u .blob) → Step sum p s call outcome u
+      → Fine u (account-by sum p a call outcome (u .blob .shown))
   step a g q (opens {v} {u} {w} {wish} tip page e d) =
       let x = open-kept sum p pos (capacity-for p wish) v (a .promise) (g .sound) (g .settled refl .firm) (g .guard) .ran u d .1 in
       record { sound = x .sound; guard = x .guard; writer = x; settled = λ e. absurd (both-ways false refl e) }
   step a g q (opening-refused tip page e) = g
-  step a g q (opening-stopped {v} {u} {w} {wish} {told} {k} tip page e d) = over u a (open-kept sum p pos (capacity-for p wish) v (a .promise) (g .sound) (g .settled refl .firm) (g .guard) .stopped u k d)
+  step a g q (opening-stopped {v} {u} {w} {wish} {told} {k} tip page e d) = over u a
+      (open-kept sum p pos (capacity-for p wish) v (a .promise) (g .sound) (g .settled refl .firm) (g .guard) .stopped u k d)
   step a g q (appends {v} {u} {phase} {w} {m} {bytes} are d) =
       let x = append-kept sum fits p pos small v w bytes (a .log) (a .promise) are (g .writer) .ran u d in
       record { sound = x .sound; guard = x .guard; writer = x; settled = λ e. absurd (both-ways false refl e) }
   step a g q (append-refused tip page e) = g
-  step a g q (append-stopped {v} {u} {phase} {w} {m} {bytes} {k} are d) = over u a (append-kept sum fits p pos small v w bytes (a .log) (a .promise) are (g .writer) .stopped u k d)
+  step a g q (append-stopped {v} {u} {phase} {w} {m} {bytes} {k} are d) = over u a
+      (append-kept sum fits p pos small v w bytes (a .log) (a .promise) are (g .writer) .stopped u k d)
   step a g q (syncs {v} {u} {phase} {w} {m} d) =
       let x = sync-kept sum fits p pos small v w (a .log) (a .promise) (g .writer) .ran u d in
       record { sound = x .0 .sound; guard = x .0 .guard; writer = x .0; settled = λ _. x .1 .0 }
@@ -153,10 +160,13 @@ module _ (sum : List ℕ → ℕ) (fits : Fits-four sum) (p : ℕ) (pos : 0 < p)
   }
 
   -- an opening shows what was promised
-  here : {wish told : ℕ} {s u : LineState} (a : Account) → Fine s a → Step sum p s (opening wish told) accepted u → Holds (opened-log sum p (u .blob .shown)) (a .promise)
-  here a g (opens {v} {u} {w} {wish} tip page e d) = open-kept sum p pos (capacity-for p wish) v (a .promise) (g .sound) (g .settled refl .firm) (g .guard) .ran u d .0
+  here : {wish told : ℕ} {s u : LineState} (a : Account) → Fine s a → Step sum p s (opening wish told) accepted u
+      → Holds (opened-log sum p (u .blob .shown)) (a .promise)
+  here a g (opens {v} {u} {w} {wish} tip page e d) = open-kept sum p pos (capacity-for p wish) v (a .promise) (g .sound) (g .settled refl .firm)
+      (g .guard) .ran u d .0
 
-  pub along : (s end : LineState) (a : Account) (before after : List Event) (wish told : ℕ) (bs : List ℕ) → Fine s a → Line sum p s (before ++ (event (opening wish told) accepted bs ∷ after)) end
+  pub along : (s end : LineState) (a : Account) (before after : List Event) (wish told : ℕ) (bs : List ℕ) → Fine s a
+      → Line sum p s (before ++ (event (opening wish told) accepted bs ∷ after)) end
       → Holds (opened-log sum p bs) (account-from sum p a before .promise)
   along s end a [] after wish told bs g (then d q l) = here a g d
   along s end a (e ∷ before) after wish told bs g (then d q l) = along _ end (account-after sum p a e) before after wish told bs (step a g q d) l

@@ -47,14 +47,19 @@ module _ (sum : List ℕ → ℕ) (p : ℕ) (s : List ℕ) where
   scan-ran v m (suc n) d =
       let same : d .0 ≡ v = d .1 .1 .2 in
       let rest : Carried (d .0) (cond (eqb (cover sum (page-at p s n)) 0) (scan-row sum p s n) []) m (Ok tt) → m ≡ d .0
-      = cond-both (eqb (cover sum (page-at p s n)) 0) (scan-row sum p s n) [] (λ ops. Carried (d .0) ops m (Ok tt) → m ≡ d .0) (λ _ x. scan-ran (d .0) m n x) (λ _ x. x) in
+      = cond-both (eqb (cover sum (page-at p s n)) 0) (scan-row sum p s n) [] (λ ops. Carried (d .0) ops m (Ok tt) → m ≡ d .0)
+      (λ _ x. scan-ran (d .0) m n x) (λ _ x. x) in
       rest (d .1 .2) ∙ same
 
-  scan-stopped : (v u : BlobValue) (k : StateRefusal) (promise : List Place) (n : ℕ) → Guard sum p v promise → Carried v (scan-row sum p s n) u (Err k) → Sound u × Guard sum p u promise
+  scan-stopped : (v u : BlobValue) (k : StateRefusal) (promise : List Place) (n : ℕ) → Guard sum p v promise
+      → Carried v (scan-row sum p s n) u (Err k) → Sound u × Guard sum p u promise
   unfolding scan-row
   scan-stopped v u k promise zero g d = absurd d
-  scan-stopped v u k promise (suc n) g (inl d) =
-      (d .0, read-stop (λ x. Guard sum p x promise) v u g (start p n) (p + 12) k (λ before after r x. read-keeps sum p v u promise (start p n) before after r x g) (d .1))
+  scan-stopped v u k promise (suc n) g (inl d) = (
+    d .0,
+    read-stop (λ x. Guard sum p x promise) v u g (start p n) (p + 12) k
+        (λ before after r x. read-keeps sum p v u promise (start p n) before after r x g) (d .1),
+  )
   scan-stopped v u k promise (suc n) g (inr d) =
       let h = subst (λ y. Guard sum p y promise) (sym (d .1 .1 .2)) g in
       cond-both (eqb (cover sum (page-at p s n)) 0) (scan-row sum p s n) [] (λ ops. Carried (d .0) ops u (Err k) → Sound u × Guard sum p u promise)
@@ -107,13 +112,15 @@ module _ (sum : List ℕ → ℕ) (p : ℕ) (capacity : ℕ) (mark : SyncState) 
     long : length (page-at p s m) ≡ p + 12
     long = page-long p s m (omega (arith, whole))
 
-    by-verdict : (x : Judged) → verdict-of sum (page-at p s m) ≡ x → Told sum p (page-at p s m) long x → Made (by-last capacity mark m x) (pages-log sum p s (suc m))
+    by-verdict : (x : Judged) → verdict-of sum (page-at p s m) ≡ x → Told sum p (page-at p s m) long x
+        → Made (by-last capacity mark m x) (pages-log sum p s (suc m))
     unfolding Told cover
     by-verdict rejected q t = absurd (omega (arith, ap extent q, some))
     by-verdict (partial a part) q t =
         let c : cover sum (page-at p s m) ≡ a .len = ap extent q in
         let n : length part ≡ a .len = ap length (t .3) ∙ length-take (a .len) (page-at p s m) ∙ omega (arith, long, t .2) in
-        let at : (k : ℕ) → k < a .len → getD part k 0 ≡ getD (page-at p s m) k 0 = λ k y. ap (λ z. getD z k 0) (t .3) ∙ getD-take (a .len) (page-at p s m) k 0 y in
+        let at : (k : ℕ) → k < a .len → getD part k 0 ≡ getD (page-at p s m) k 0 = λ k y. ap (λ z. getD z k 0) (t .3)
+        ∙ getD-take (a .len) (page-at p s m) k 0 y in
         record {
           bytes = subst Bytes (sym (t .3)) (bytes-front (a .len) (page-at p s m) (are m));
           flushed = record {
@@ -149,7 +156,8 @@ module _ (sum : List ℕ → ℕ) (p : ℕ) (capacity : ℕ) (mark : SyncState) 
           marked = refl;
         }
 
-  pub made : (k : ℕ) → length s ≡ start p k → ((m : ℕ) → k ≡ suc m → 0 < cover sum (page-at p s m)) → Made (opened-writer sum p capacity mark s k) (pages-log sum p s k)
+  pub made : (k : ℕ) → length s ≡ start p k → ((m : ℕ) → k ≡ suc m → 0 < cover sum (page-at p s m))
+      → Made (opened-writer sum p capacity mark s k) (pages-log sum p s k)
   unfolding pages-log
   made zero e h = record {
     bytes = no-bytes;
@@ -158,20 +166,24 @@ module _ (sum : List ℕ → ℕ) (p : ℕ) (capacity : ℕ) (mark : SyncState) 
     durable = refl;
     marked = refl;
   }
-  made (suc m) e h = let e = e ∙ ap (start p) (omega arith) in by-verdict m e (h m refl) (verdict-of sum (page-at p s m)) refl (verdict-told sum p (page-at p s m) (long m e (h m refl)))
+  made (suc m) e h = let e = e ∙ ap (start p) (omega arith) in by-verdict m e (h m refl) (verdict-of sum (page-at p s m)) refl
+      (verdict-told sum p (page-at p s m) (long m e (h m refl)))
 
 -- logs of the same pages
 rows-same : (sum : List ℕ → ℕ) (p : ℕ) (s t : List ℕ) (k : ℕ) → ((m : ℕ) → m < k → page-at p t m ≡ page-at p s m) → full-rows sum p t k ≡ full-rows sum p s k
 unfolding full-rows
 rows-same sum p s t zero h = refl
-rows-same sum p s t (suc k) h = ap (λ x. x ++ page-places sum (page-at p t k) p) (rows-same sum p s t k (λ m l. h m (omega arith))) ∙ ap (λ x. full-rows sum p s k ++ page-places sum x p) (h k (omega arith))
+rows-same sum p s t (suc k) h = ap (λ x. x ++ page-places sum (page-at p t k) p) (rows-same sum p s t k (λ m l. h m (omega arith)))
+    ∙ ap (λ x. full-rows sum p s k ++ page-places sum x p) (h k (omega arith))
 
 log-same : (sum : List ℕ → ℕ) (p : ℕ) (s t : List ℕ) (k : ℕ) → ((m : ℕ) → m < k → page-at p t m ≡ page-at p s m) → pages-log sum p t k ≡ pages-log sum p s k
 unfolding pages-log
 log-same sum p s t zero h = refl
-log-same sum p s t (suc k) h = ap (λ x. x ++ page-places sum (page-at p t k) (cover sum (page-at p t k))) (rows-same sum p s t k (λ m l. h m (omega arith))) ∙ ap (λ x. full-rows sum p s k ++ page-places sum x (cover sum x)) (h k (omega arith))
+log-same sum p s t (suc k) h = ap (λ x. x ++ page-places sum (page-at p t k) (cover sum (page-at p t k)))
+    (rows-same sum p s t k (λ m l. h m (omega arith))) ∙ ap (λ x. full-rows sum p s k ++ page-places sum x (cover sum x)) (h k (omega arith))
 
-at-same : (sum : List ℕ → ℕ) (p capacity : ℕ) (mark : SyncState) (s t : List ℕ) (k : ℕ) → ((m : ℕ) → m < k → page-at p t m ≡ page-at p s m) → opened-writer sum p capacity mark t k ≡ opened-writer sum p capacity mark s k
+at-same : (sum : List ℕ → ℕ) (p capacity : ℕ) (mark : SyncState) (s t : List ℕ) (k : ℕ) → ((m : ℕ) → m < k → page-at p t m ≡ page-at p s m)
+    → opened-writer sum p capacity mark t k ≡ opened-writer sum p capacity mark s k
 at-same sum p capacity mark s t zero h = refl
 at-same sum p capacity mark s t (suc m) h = ap (λ x. by-last capacity mark m (verdict-of sum x)) (h m (omega arith))
 
@@ -192,7 +204,7 @@ module _ (p : ℕ) (s : List ℕ) (k : ℕ) (fits : start p k ≤ length s) wher
       cut-byte n h = grind (arith, places)
 
 -- the blob u is v cut to m whole pages
-pub record Cutted (sum : List ℕ → ℕ) (p : ℕ) (v u : BlobValue) (m : ℕ) (promise : List Place) : Type 0 where
+pub record Cut-to (sum : List ℕ → ℕ) (p : ℕ) (v u : BlobValue) (m : ℕ) (promise : List Place) : Type 0 where
   pub sound : Sound u
   pub firm : Firm u
   pub guard : Guard sum p u promise
@@ -201,19 +213,23 @@ pub record Cutted (sum : List ℕ → ℕ) (p : ℕ) (v u : BlobValue) (m : ℕ)
 
 -- what an opening comes to
 pub record Opens (sum : List ℕ → ℕ) (p : ℕ) (v : BlobValue) (x : Plan) (promise : List Place) : Type 0 where
-  pub ran : (u : BlobValue) → Carried v (x .ops) u (Ok tt) → Holds (opened-log sum p (u .shown)) promise × Inv sum p u (x .to) (opened-log sum p (u .shown)) (opened-log sum p (u .shown))
+  pub ran : (u : BlobValue) → Carried v (x .ops) u (Ok tt) → Holds (opened-log sum p (u .shown)) promise × Inv sum p u (x .to)
+      (opened-log sum p (u .shown)) (opened-log sum p (u .shown))
   pub same : (u : BlobValue) → Carried v (x .ops) u (Ok tt) → opened-log sum p (u .shown) ≡ opened-log sum p (v .shown)
   pub stopped : (u : BlobValue) (k : StateRefusal) → Carried v (x .ops) u (Err k) → Sound u × Guard sum p u promise
   pub neat : (u : BlobValue) → Carried v (x .ops) u (Ok tt) → All-neat sum p (v .shown) → All-neat sum p (u .shown)
 
 -- pages that the bytes behind a cut still have
-pub cut-neat : (sum : List ℕ → ℕ) (p : ℕ) (s t : List ℕ) (k : ℕ) → length t ≡ start p k → start p k ≤ length s → ((m : ℕ) → m < k → page-at p t m ≡ page-at p s m) → All-neat sum p s → All-neat sum p t
+pub cut-neat : (sum : List ℕ → ℕ) (p : ℕ) (s t : List ℕ) (k : ℕ) → length t ≡ start p k → start p k ≤ length s
+    → ((m : ℕ) → m < k → page-at p t m ≡ page-at p s m) → All-neat sum p s → All-neat sum p t
 cut-neat sum p s t k e f same n i h = ⊎-elim
     (λ l. subst (Neat sum p) (sym (same i l)) (n i (omega (arith, start-less p i k l))))
-    (λ (l : k ≤ i). absurd (⊎-elim (λ (m : k < i). omega (arith, start-less p k i m)) (λ (m : i ≤ k). let j : i ≡ k = omega arith in omega (arith, ap (start p) j)) (cases-lt k i)))
+    (λ (l : k ≤ i). absurd (⊎-elim (λ (m : k < i). omega (arith, start-less p k i m))
+    (λ (m : i ≤ k). let j : i ≡ k = omega arith in omega (arith, ap (start p) j)) (cases-lt k i)))
     (cases-lt i k)
 
-module _ (sum : List ℕ → ℕ) (p : ℕ) (pos : 0 < p) (capacity : ℕ) (v : BlobValue) (promise : List Place) (sound : Sound v) (firm : Firm v) (guard : Guard sum p v promise) where
+module _ (sum : List ℕ → ℕ) (p : ℕ) (pos : 0 < p) (capacity : ℕ) (v : BlobValue) (promise : List Place) (sound : Sound v) (firm : Firm v)
+    (guard : Guard sum p v promise) where
   -- how many pages are kept
   abbrev all : ℕ
   all = whole-pages p (v .shown)
@@ -241,9 +257,11 @@ module _ (sum : List ℕ → ℕ) (p : ℕ) (pos : 0 < p) (capacity : ℕ) (v : 
   -- the writer over bytes that end with the pages that are kept
   opens : (u : BlobValue) (mark : SyncState) → Sound u → Firm u → (mark ≡ Clean → Settled u) → Guard sum p u promise → length (u .shown) ≡ start p many
       → ((m : ℕ) → m < many → page-at p (u .shown) m ≡ page-at p (v .shown) m)
-      → Holds (opened-log sum p (u .shown)) promise × Inv sum p u (opened-writer sum p capacity mark (v .shown) many) (opened-log sum p (u .shown)) (opened-log sum p (u .shown))
+      → Holds (opened-log sum p (u .shown)) promise × Inv sum p u (opened-writer sum p capacity mark (v .shown) many) (opened-log sum p (u .shown))
+      (opened-log sum p (u .shown))
   opens u mark s f z g e same =
-      let tail : (m : ℕ) → many ≡ suc m → 0 < cover sum (page-at p (u .shown) m) = λ m q. subst (λ x. 0 < cover sum x) (sym (same m (omega (arith, q)))) (last m q) in
+      let tail : (m : ℕ) → many ≡ suc m → 0 < cover sum (page-at p (u .shown) m) = λ m q. subst (λ x. 0 < cover sum x)
+      (sym (same m (omega (arith, q)))) (last m q) in
       let log : opened-log sum p (u .shown) ≡ pages-log sum p (u .shown) many = opened-whole sum p (u .shown) many e tail in
       let x = made sum p capacity mark (u .shown) (λ m. page-bytes p u m s) many e tail in (
         opening sum p (u .shown) promise pos (standing-here sum p u promise g),
@@ -253,23 +271,31 @@ module _ (sum : List ℕ → ℕ) (p : ℕ) (pos : 0 < p) (capacity : ℕ) (v : 
               guard = guarded sum p u (opened-log sum p (u .shown)) s f (opened-stands sum p (u .shown));
               bytes = x .bytes;
               flushed = x .flushed;
-              tracks = subst (λ l. Tracks sum p (u .shown) (opened-writer sum p capacity mark (u .shown) many .page) (opened-writer sum p capacity mark (u .shown) many .tip) l) (sym log) (x .tracks);
+              tracks = subst (λ l. Tracks sum p (u .shown) (opened-writer sum p capacity mark (u .shown) many .page)
+                  (opened-writer sum p capacity mark (u .shown) many .tip) l) (sym log) (x .tracks);
               firm = inl f;
               settled = λ q. z (sym (x .marked) ∙ q);
               durable = x .durable;
             }),
       )
 
-  opens-same : (t : List ℕ) → length t ≡ start p many → ((m : ℕ) → m < many → page-at p t m ≡ page-at p (v .shown) m) → opened-log sum p t ≡ opened-log sum p (v .shown)
+  opens-same : (t : List ℕ) → length t ≡ start p many → ((m : ℕ) → m < many → page-at p t m ≡ page-at p (v .shown) m)
+      → opened-log sum p t ≡ opened-log sum p (v .shown)
   unfolding opened-log
   opens-same t e same =
       opened-whole sum p t many e (λ m q. subst (λ x. 0 < cover sum x) (sym (same m (omega (arith, q)))) (last m q)) ∙ log-same sum p (v .shown) t many same
 
   -- nothing is dropped
-  whole-opens : start p many ≡ length (v .shown) → Opens sum p v (record { ops = scan-row sum p (v .shown) all; to = opened-writer sum p capacity Dirty (v .shown) many }) promise
+  whole-opens : start p many ≡ length (v .shown) → Opens sum p v (record {
+    ops = scan-row sum p
+        (v .shown) all;
+    to = opened-writer sum p capacity Dirty (v .shown) many;
+  }) promise
   whole-opens e = record {
-    ran = λ u d. subst (λ y. Holds (opened-log sum p (y .shown)) promise × Inv sum p y (opened-writer sum p capacity Dirty (v .shown) many) (opened-log sum p (y .shown)) (opened-log sum p (y .shown)))
-        (sym (scan-ran sum p (v .shown) v u all d)) (opens v Dirty sound firm (λ q. let z : _≡_ {A = ℕ} 0 1 = cc in absurd (omega arith)) guard (sym e) (λ _ _. refl));
+    ran = λ u d. subst (λ y. Holds (opened-log sum p (y .shown)) promise × Inv sum p y (opened-writer sum p capacity Dirty (v .shown) many)
+        (opened-log sum p (y .shown)) (opened-log sum p (y .shown)))
+        (sym (scan-ran sum p (v .shown) v u all d)) (opens v Dirty sound firm (λ q. let z : _≡_ {A = ℕ} 0 1 = cc in absurd (omega arith)) guard
+        (sym e) (λ _ _. refl));
     same = λ u d. ap (λ (y : BlobValue). opened-log sum p (y .shown)) (scan-ran sum p (v .shown) v u all d);
     stopped = λ u k d. scan-stopped sum p (v .shown) v u k promise all guard d;
     neat = λ u d n. subst (λ y. All-neat sum p (y .shown)) (sym (scan-ran sum p (v .shown) v u all d)) n;
@@ -278,7 +304,8 @@ module _ (sum : List ℕ → ℕ) (p : ℕ) (pos : 0 < p) (capacity : ℕ) (v : 
   resized-guard : (u : BlobValue) (r : Result (Unit {0}) Fault) → Resized v (start p many) u r → Guard sum p u promise
   resized-guard u r d = resize-keeps sum p v u promise many r few d guard
 
-  dropped : (u : BlobValue) → Carried v (scan-row sum p (v .shown) all ++ (resizes (start p many) ∷ settles ∷ [])) u (Ok tt) → Cutted sum p v u many promise × Settled u
+  dropped : (u : BlobValue) → Carried v (scan-row sum p (v .shown) all ++ (resizes (start p many) ∷ settles ∷ [])) u (Ok tt)
+      → Cut-to sum p v u many promise × Settled u
   dropped u d =
       let a = ran-split v u (scan-row sum p (v .shown) all) _ d in
       let b = subst (λ z. Carried z (resizes (start p many) ∷ settles ∷ []) u (Ok tt)) (scan-ran sum p (v .shown) v (a .0) all (a .1 .0)) (a .1 .1) in
@@ -286,7 +313,7 @@ module _ (sum : List ℕ → ℕ) (p : ℕ) (pos : 0 < p) (capacity : ℕ) (v : 
       let c = b .1 .2 in
       let fixed : Settle-done (b .0) (c .0) = c .1 .1 in
       let shows : c .0 .shown ≡ resized (v .shown) (start p many) = fixed .shows ∙ cutting .shows in
-      subst (λ x. Cutted sum p v x many promise × Settled x) (sym (c .1 .2)) (
+      subst (λ x. Cut-to sum p v x many promise × Settled x) (sym (c .1 .2)) (
         record {
           sound = c .1 .0;
           firm = fixed .settled .firm;
@@ -297,16 +324,22 @@ module _ (sum : List ℕ → ℕ) (p : ℕ) (pos : 0 < p) (capacity : ℕ) (v : 
         fixed .settled,
       )
 
-  cut-opens : Opens sum p v (record { ops = scan-row sum p (v .shown) all ++ (resizes (start p many) ∷ settles ∷ []); to = opened-writer sum p capacity Clean (v .shown) many }) promise
+  cut-opens : Opens sum p v (record {
+    ops = scan-row sum p (v .shown) all ++
+        (resizes (start p many) ∷ settles ∷ []);
+    to = opened-writer sum p capacity Clean (v .shown) many;
+  }) promise
   cut-opens = record {
     ran = λ u d. let x = dropped u d in let y = x .0 in opens u Clean (y .sound) (y .firm) (λ _. x .1) (y .guard) (y .long) (y .page);
     same = λ u d. let x = dropped u d .0 in opens-same (u .shown) (x .long) (x .page);
     stopped = λ u k d. ⊎-elim
         (λ z. scan-stopped sum p (v .shown) v u k promise all guard z)
         (λ z. ⊎-elim
-        (λ y. let x = fault-stop resize-call (start p many) (λ fault. Resized v (start p many) u (Err fault)) k (y .1) in (y .0, resized-guard u (Err (x .0)) (x .1)))
+        (λ y. let x = fault-stop resize-call (start p many) (λ fault. Resized v (start p many) u (Err fault)) k (y .1) in
+        (y .0, resized-guard u (Err (x .0)) (x .1)))
         (λ y. ⊎-elim
-        (λ x. let q = fault-stop settle-call 0 (λ fault. Settling (y .0) u (Err fault)) k (x .1) in (x .0, settle-keeps sum p (y .0) u promise (Err (q .0)) (x .0) (q .1) (resized-guard (y .0) (Ok tt) (y .1 .1))))
+        (λ x. let q = fault-stop settle-call 0 (λ fault. Settling (y .0) u (Err fault)) k (x .1) in
+        (x .0, settle-keeps sum p (y .0) u promise (Err (q .0)) (x .0) (q .1) (resized-guard (y .0) (Ok tt) (y .1 .1))))
         (λ x. absurd (x .1 .2))
         (y .1 .2))
         (subst (λ x. Carried x (resizes (start p many) ∷ settles ∷ []) u (Err k)) (scan-ran sum p (v .shown) v (z .0) all (z .1 .0)) (z .1 .1)))

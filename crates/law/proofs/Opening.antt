@@ -42,7 +42,8 @@ module _ (sum : List ℕ → ℕ) (page : List ℕ) where
   places-at zero k h = absurd (omega arith)
   places-at (suc n) k h = ⊎-elim
       (λ l. getD-append-left (page-places sum page n) _ gap k (omega (arith, places-long n)) ∙ places-at n k l)
-      (λ l. let e : k ≡ n = omega arith in ap (λ m. getD (page-places sum page n ++ (page-place sum page n ∷ [])) m gap) e ∙ getD-push (page-places sum page n) _ gap n (places-long n) ∙ ap (page-place sum page) (sym e))
+      (λ l. let e : k ≡ n = omega arith in ap (λ m. getD (page-places sum page n ++ (page-place sum page n ∷ [])) m gap) e
+      ∙ getD-push (page-places sum page n) _ gap n (places-long n) ∙ ap (page-place sum page) (sym e))
       (cases-lt k n)
 
 module _ (sum : List ℕ → ℕ) (p : ℕ) (s : List ℕ) where
@@ -83,7 +84,8 @@ module _ (sum : List ℕ → ℕ) (p : ℕ) (s : List ℕ) where
   unfolding pages-kept
   kept-over zero i h g = absurd (omega arith)
   kept-over (suc n) i h g = cond-both (eqb (cover sum (page-at p s n)) 0) _ _ (λ m. i < m)
-      (λ e. kept-over n i (⊎-elim (λ l. l) (λ l. let f : i ≡ n = omega arith in let z = eqb-true (cover sum (page-at p s n)) 0 e in let y = subst (λ m. 0 < cover sum (page-at p s m)) f g in absurd (omega arith)) (cases-lt i n)) g)
+      (λ e. kept-over n i (⊎-elim (λ l. l) (λ l. let f : i ≡ n = omega arith in let z = eqb-true (cover sum (page-at p s n)) 0 e in
+      let y = subst (λ m. 0 < cover sum (page-at p s m)) f g in absurd (omega arith)) (cases-lt i n)) g)
       (λ _. h)
 
   pub kept-most : (n : ℕ) → pages-kept sum p s n ≤ n
@@ -113,7 +115,14 @@ module _ (sum : List ℕ → ℕ) (p : ℕ) (s : List ℕ) where
   unfolding pages-log
   log-past zero i j h g c = refl
   log-past (suc n) i j h g c = getD-past (full-rows sum p s n ++ page-places sum (page-at p s n) (cover sum (page-at p s n))) (i * p + j) gap
-      (simp length-append (omega (arith, row-long n, places-long sum (page-at p s n) (cover sum (page-at p s n)), c n (omega arith), mul-le (suc n) p i p h (omega arith))))
+      (simp length-append (omega (
+        arith,
+        row-long n,
+        places-long sum (page-at p s n) (cover sum (page-at p s n)),
+        c n (omega arith),
+        mul-le
+            (suc n) p i p h (omega arith),
+      )))
 
   pub covers-few : (i : ℕ) → start p i + (p + 12) ≤ length s → cover sum (page-at p s i) ≤ p
   covers-few i h = ⊎-elim (λ e. omega arith) (λ x. omega (arith, x .1 .0 .high, x .1 .1)) (by-some sum p (page-at p s i) (page-long p s i h))

@@ -46,13 +46,16 @@ decode w len check l c =
     let b = four-back check c in
     ap (λ n. record { slot = w; len = n; check = four-at (slot-bytes len check) 2 }) a ∙ ap (λ n. record { slot = w; len = len; check = n }) b
 
-top : (a b c d : ℕ) → a < 256 → b < 256 → c < 256 → d < 256 → let n = a * 16777216 + b * 65536 + c * 256 + d in (n / 16777216 % 256 ≡ a) × (n / 65536 % 256 ≡ b) × (n / 256 % 256 ≡ c) × (n % 256 ≡ d)
+top : (a b c d : ℕ) → a < 256 → b < 256 → c < 256 → d < 256 → let n = a * 16777216 + b * 65536 + c * 256 + d in
+    (n / 16777216 % 256 ≡ a) × (n / 65536 % 256 ≡ b) × (n / 256 % 256 ≡ c) × (n % 256 ≡ d)
 top a b c d e f g h = (omega arith, omega arith, omega arith, omega arith)
 
 four-top : (page : List ℕ) (o : ℕ) → Bytes page → let n = four-at page (o + 2) in
-    (n / 16777216 % 256 ≡ getD page (o + 2) 0) × (n / 65536 % 256 ≡ getD page (o + 2 + 1) 0) × (n / 256 % 256 ≡ getD page (o + 2 + 2) 0) × (n % 256 ≡ getD page (o + 2 + 3) 0)
+    (n / 16777216 % 256 ≡ getD page (o + 2) 0) × (n / 65536 % 256 ≡ getD page (o + 2 + 1) 0) × (n / 256 % 256 ≡ getD page (o + 2 + 2) 0) ×
+    (n % 256 ≡ getD page (o + 2 + 3) 0)
 four-top page o small =
-    top (getD page (o + 2) 0) (getD page (o + 2 + 1) 0) (getD page (o + 2 + 2) 0) (getD page (o + 2 + 3) 0) (small (o + 2)) (small (o + 2 + 1)) (small (o + 2 + 2)) (small (o + 2 + 3))
+    top (getD page (o + 2) 0) (getD page (o + 2 + 1) 0) (getD page (o + 2 + 2) 0) (getD page (o + 2 + 3) 0) (small (o + 2)) (small (o + 2 + 1))
+    (small (o + 2 + 2)) (small (o + 2 + 3))
 
 -- and bytes are the bytes of the slot that is read from them
 pub encode : (page : List ℕ) (o : ℕ) → Bytes page → (k : ℕ) → k < 6 → getD (slot-bytes (two-at page o) (four-at page (o + 2))) k 0 ≡ getD page (o + k) 0
@@ -93,7 +96,8 @@ slot-encode p page w small k h = encode page (slot-start p w) small k h
 footer-place : (p : ℕ) (body : List ℕ) → length body ≡ p → (c : Checksum) (w : Slot) (k : ℕ) → k < 6
     → getD (body ++ footer-bytes c) (slot-start p w + k) 0 ≡ getD (slot-bytes (slot-in c w .len) (slot-in c w .check)) k 0
 footer-place p body long c First k h =
-    getD-append-right body (footer-bytes c) p (p + 0 + k) 0 long (omega arith) ∙ ap (λ n. getD (footer-bytes c) n 0) (let z : p + 0 + k - p ≡ k = omega arith in z)
+    getD-append-right body (footer-bytes c) p (p + 0 + k) 0 long (omega arith)
+    ∙ ap (λ n. getD (footer-bytes c) n 0) (let z : p + 0 + k - p ≡ k = omega arith in z)
     ∙ getD-append-left (slot-bytes (c .len1) (c .check1)) (slot-bytes (c .len2) (c .check2)) 0 k (omega arith)
 footer-place p body long c Second k h =
     getD-append-right body (footer-bytes c) p (p + 6 + k) 0 long (omega arith)
@@ -131,7 +135,8 @@ abbrev pub Older-kept : (List ℕ → ℕ) → List ℕ → Option ActiveChecksu
 Older-kept sum bytes None = Unit {0}
 Older-kept sum bytes (Some a) = Older sum bytes a
 
-module _ (sum : List ℕ → ℕ) (fits : Fits-four sum) (p : ℕ) (small : p ≤ 65535) (bytes : List ℕ) (are : Bytes bytes) (some : 0 < length bytes) (few : length bytes ≤ p) where
+module _ (sum : List ℕ → ℕ) (fits : Fits-four sum) (p : ℕ) (small : p ≤ 65535) (bytes : List ℕ) (are : Bytes bytes) (some : 0 < length bytes)
+    (few : length bytes ≤ p) where
   padded : length (bytes ++ replicate (p - length bytes) 0) ≡ p
   padded = simp (length-append, length-replicate) (omega arith)
 
@@ -140,7 +145,8 @@ module _ (sum : List ℕ → ℕ) (fits : Fits-four sum) (p : ℕ) (small : p �
   page-data old k h = getD-append-left (bytes ++ replicate (p - length bytes) 0) _ 0 k (omega (arith, padded)) ∙ getD-append-left bytes _ 0 k h
 
   page-slot : (old : Option ActiveChecksum) (w : Slot) (k : ℕ) → k < 6
-      → getD (physical-page sum p bytes old) (slot-start p w + k) 0 ≡ getD (slot-bytes (slot-in (keeping old (length bytes) (sum bytes)) w .len) (slot-in (keeping old (length bytes) (sum bytes)) w .check)) k 0
+      → getD (physical-page sum p bytes old) (slot-start p w + k) 0 ≡ getD
+      (slot-bytes (slot-in (keeping old (length bytes) (sum bytes)) w .len) (slot-in (keeping old (length bytes) (sum bytes)) w .check)) k 0
   unfolding physical-page
   page-slot old w k h = footer-place p (bytes ++ replicate (p - length bytes) 0) padded (keeping old (length bytes) (sum bytes)) w k h
 
@@ -148,7 +154,8 @@ module _ (sum : List ℕ → ℕ) (fits : Fits-four sum) (p : ℕ) (small : p �
   page-take old n h = same-take n bytes (physical-page sum p bytes old) h (omega (arith, page-length sum p bytes old few)) (λ k l. page-data old k (omega arith))
 
   -- a slot that fits stands in the page
-  slot-stands : (old : Option ActiveChecksum) (w : Slot) (l c : ℕ) → slot-in (keeping old (length bytes) (sum bytes)) w ≡ record { slot = w; len = l; check = c } → l < 2 ^ 16 → c < 2 ^ 32
+  slot-stands : (old : Option ActiveChecksum) (w : Slot) (l c : ℕ) → slot-in
+      (keeping old (length bytes) (sum bytes)) w ≡ record { slot = w; len = l; check = c } → l < 2 ^ 16 → c < 2 ^ 32
       → slot-of p (physical-page sum p bytes old) w ≡ record { slot = w; len = l; check = c }
   slot-stands old w l c e a b =
       slot-reads p (physical-page sum p bytes old) w (slot-bytes l c)
@@ -158,10 +165,12 @@ module _ (sum : List ℕ → ℕ) (fits : Fits-four sum) (p : ℕ) (small : p �
   new-fits : sum bytes < 2 ^ 32
   new-fits = fits bytes (record { few = omega arith; bytes = are })
 
-  pub new-there : (old : Option ActiveChecksum) → slot-of p (physical-page sum p bytes old) (new-slot old) ≡ record { slot = new-slot old; len = length bytes; check = sum bytes }
+  pub new-there : (old : Option ActiveChecksum) → slot-of p (physical-page sum p bytes old)
+      (new-slot old) ≡ record { slot = new-slot old; len = length bytes; check = sum bytes }
   new-there old = slot-stands old (new-slot old) (length bytes) (sum bytes) (in-new old (length bytes) (sum bytes)) (omega arith) new-fits
 
-  valid-by : (old : Option ActiveChecksum) (w : Slot) (l c : ℕ) → slot-of p (physical-page sum p bytes old) w ≡ record { slot = w; len = l; check = c } → 0 < l → l ≤ length bytes → sum (take l bytes) ≡ c
+  valid-by : (old : Option ActiveChecksum) (w : Slot) (l c : ℕ) → slot-of p
+      (physical-page sum p bytes old) w ≡ record { slot = w; len = l; check = c } → 0 < l → l ≤ length bytes → sum (take l bytes) ≡ c
       → Valid sum p (physical-page sum p bytes old) w
   valid-by old w l c e a b q =
       let x : slot-of p (physical-page sum p bytes old) w .len ≡ l = ap (λ (s : ActiveChecksum). s .len) e in
@@ -173,16 +182,19 @@ module _ (sum : List ℕ → ℕ) (fits : Fits-four sum) (p : ℕ) (small : p �
 
   -- the other slot: zero, or the old one
   other-there : (old : Option ActiveChecksum) → Older-kept sum bytes old → (w : Slot) → other-slot (new-slot old) ≡ w
-      → (slot-of p (physical-page sum p bytes old) w .len ≡ 0) ⊎ (Valid sum p (physical-page sum p bytes old) w × (slot-of p (physical-page sum p bytes old) w .len ≤ length bytes))
+      → (slot-of p (physical-page sum p bytes old) w .len ≡ 0) ⊎ (Valid sum p (physical-page sum p bytes old) w ×
+      (slot-of p (physical-page sum p bytes old) w .len ≤ length bytes))
   other-there None o First e = let z : _≡_ {A = ℕ} 0 1 = cc in absurd (omega arith)
   other-there None o Second e = inl (ap (λ (s : ActiveChecksum). s .len) (slot-stands None Second 0 0 refl (omega arith) (omega arith)))
   other-there (Some a) o w e =
       let q : w ≡ a .slot = sym e ∙ other-twice (a .slot) in
       let s : slot-of p (physical-page sum p bytes (Some a)) (a .slot) ≡ record { slot = a .slot; len = a .len; check = a .check }
-      = slot-stands (Some a) (a .slot) (a .len) (a .check) (in-beside-old (a .slot) (a .len) (a .check) (length bytes) (sum bytes)) (omega (arith, o .shorter)) (o .fits) in
+      = slot-stands (Some a) (a .slot) (a .len) (a .check) (in-beside-old (a .slot) (a .len) (a .check) (length bytes) (sum bytes))
+      (omega (arith, o .shorter)) (o .fits) in
       let v = valid-by (Some a) (a .slot) (a .len) (a .check) s (o .low) (omega (arith, o .shorter)) (o .check) in
       let l : slot-of p (physical-page sum p bytes (Some a)) (a .slot) .len ≡ a .len = ap (λ (x : ActiveChecksum). x .len) s in
-      inr (subst (λ z. Valid sum p (physical-page sum p bytes (Some a)) z × (slot-of p (physical-page sum p bytes (Some a)) z .len ≤ length bytes)) (sym q) (v, omega (arith, o .shorter)))
+      inr (subst (λ z. Valid sum p (physical-page sum p bytes (Some a)) z × (slot-of p (physical-page sum p bytes (Some a)) z .len ≤ length bytes))
+      (sym q) (v, omega (arith, o .shorter)))
 
   pub new-neat : (old : Option ActiveChecksum) → Older-kept sum bytes old → Neat sum p (physical-page sum p bytes old)
   new-neat old o w = ⊎-elim
@@ -203,5 +215,7 @@ module _ (sum : List ℕ → ℕ) (fits : Fits-four sum) (p : ℕ) (small : p �
       ⊎-elim (λ e. omega arith) (λ z. omega (arith, z .1 .1, most (z .0))) (by-some sum p (physical-page sum p bytes old) long)
 
   -- the old slot keeps its bytes
-  pub old-bytes : (a : ActiveChecksum) (k : ℕ) → k < 6 → getD (physical-page sum p bytes (Some a)) (slot-start p (a .slot) + k) 0 ≡ getD (slot-bytes (a .len) (a .check)) k 0
-  old-bytes a k l = page-slot (Some a) (a .slot) k l ∙ ap (λ (x : ActiveChecksum). getD (slot-bytes (x .len) (x .check)) k 0) (in-beside-old (a .slot) (a .len) (a .check) (length bytes) (sum bytes))
+  pub old-bytes : (a : ActiveChecksum) (k : ℕ) → k < 6 → getD (physical-page sum p bytes (Some a)) (slot-start p (a .slot) + k) 0 ≡ getD
+      (slot-bytes (a .len) (a .check)) k 0
+  old-bytes a k l = page-slot (Some a) (a .slot) k l ∙ ap (λ (x : ActiveChecksum). getD (slot-bytes (x .len) (x .check)) k 0)
+      (in-beside-old (a .slot) (a .len) (a .check) (length bytes) (sum bytes))

@@ -44,7 +44,8 @@ same-take n x y h g e = ext-getD 0 (take n y) (take n x) (simp length-take (omeg
 
 -- the six bytes of a slot
 slot-bytes-same : (w : Slot) (o : ℕ) (x y : List ℕ) → ((k : ℕ) → k < 6 → getD y (o + k) 0 ≡ getD x (o + k) 0)
-    → _≡_ {A = ActiveChecksum} (record { slot = w; len = two-at y o; check = four-at y (o + 2) }) (record { slot = w; len = two-at x o; check = four-at x (o + 2) })
+    → _≡_ {A = ActiveChecksum} (record { slot = w; len = two-at y o; check = four-at y (o + 2) })
+    (record { slot = w; len = two-at x o; check = four-at x (o + 2) })
 slot-bytes-same w o x y footer =
     let a = ap (λ n. getD y n 0) (sym (add-zero o)) ∙ footer 0 (omega arith) ∙ ap (λ n. getD x n 0) (add-zero o) in
     let b = footer 1 (omega arith) in
@@ -59,7 +60,8 @@ module _ (p : ℕ) (x y : List ℕ) (w : Slot) (footer : (k : ℕ) → k < 6 →
   unfolding slot-of
   same-slot = slot-bytes-same w (slot-start p w) x y footer
 
-  pub same-valid : (sum : List ℕ → ℕ) → p ≤ length x → p ≤ length y → ((k : ℕ) → k < slot-of p x w .len → getD y k 0 ≡ getD x k 0) → Valid sum p x w → Valid sum p y w
+  pub same-valid : (sum : List ℕ → ℕ) → p ≤ length x → p ≤ length y → ((k : ℕ) → k < slot-of p x w .len → getD y k 0 ≡ getD x k 0) → Valid sum p x w
+      → Valid sum p y w
   same-valid sum h g e v =
       let l : slot-of p y w .len ≡ slot-of p x w .len = ap (λ (s : ActiveChecksum). s .len) same-slot in
       let c : slot-of p y w .check ≡ slot-of p x w .check = ap (λ (s : ActiveChecksum). s .check) same-slot in
@@ -80,6 +82,7 @@ module _ (sum : List ℕ → ℕ) (p : ℕ) (s t : List ℕ) (i : ℕ) (w : Slot
   pub slot-stays : slot-of p (page-at p t i) w ≡ slot-of p (page-at p s i) w
   slot-stays = same-slot p (page-at p s i) (page-at p t i) w footer
 
-  pub valid-stays : ((k : ℕ) → k < slot-of p (page-at p s i) w .len → getD t (start p i + k) 0 ≡ getD s (start p i + k) 0) → Valid sum p (page-at p s i) w → Valid sum p (page-at p t i) w
+  pub valid-stays : ((k : ℕ) → k < slot-of p (page-at p s i) w .len → getD t (start p i + k) 0 ≡ getD s (start p i + k) 0)
+      → Valid sum p (page-at p s i) w → Valid sum p (page-at p t i) w
   valid-stays e v = same-valid p (page-at p s i) (page-at p t i) w footer sum (omega (arith, page-long p s i in-s)) (omega (arith, page-long p t i in-t))
       (λ k h. let l : k < p + 12 = omega (arith, v .high) in page-byte p t i k l ∙ e k h ∙ sym (page-byte p s i k l)) v

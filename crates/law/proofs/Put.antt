@@ -62,18 +62,21 @@ older sum fits p small v c tip (Some a) s e l =
     record {
       low = omega (arith, e .valid .low);
       shorter = less;
-      fits = subst (λ m. m < 2 ^ 32) check (fits (take (a .len) (page-at p (v .shown) c)) (bytes-take (a .len) (page-at p (v .shown) c) (omega (arith, e .short)) (page-bytes p v c s)));
+      fits = subst (λ m. m < 2 ^ 32) check (fits (take (a .len) (page-at p (v .shown) c))
+          (bytes-take (a .len) (page-at p (v .shown) c) (omega (arith, e .short)) (page-bytes p v c s)));
       check = ap sum same ∙ check;
     }
 
-module _ (sum : List ℕ → ℕ) (fits : Fits-four sum) (p : ℕ) (pos : 0 < p) (small : p ≤ 65535) (tip : List ℕ) (are : Bytes tip) (n : ℕ) (some : 0 < n) (h : (k : ℕ) → k < n → k * p < length tip) where
+module _ (sum : List ℕ → ℕ) (fits : Fits-four sum) (p : ℕ) (pos : 0 < p) (small : p ≤ 65535) (tip : List ℕ) (are : Bytes tip) (n : ℕ) (some : 0 < n)
+    (h : (k : ℕ) → k < n → k * p < length tip) where
   first-part : 0 < length (part p tip 0)
   first-part = omega (arith, part-long p tip 0, h 0 some)
 
   first-byte : (old : Option ActiveChecksum) (j : ℕ) → j < p + 12 → getD (physical-pages sum p tip old n) j 0 ≡ getD (physical-page sum p (part p tip 0) old) j 0
   first-byte old j l = ap (λ m. getD (physical-pages sum p tip old n) m 0) (omega (arith, start-zero p)) ∙ all-at sum p tip old n 0 j some l
 
-  pub put-guard : (v u : BlobValue) (c : ℕ) (f : Option ActiveChecksum) (promise : List Place) (r : Result (Unit {0}) Fault) → Sound v → Flushed sum p (v .shown) c tip f → Firm v ⊎ (f ≡ None)
+  pub put-guard : (v u : BlobValue) (c : ℕ) (f : Option ActiveChecksum) (promise : List Place) (r : Result (Unit {0}) Fault) → Sound v
+      → Flushed sum p (v .shown) c tip f → Firm v ⊎ (f ≡ None)
       → Older-kept sum (part p tip 0) f → Wrote v (start p c) (physical-pages sum p tip f n) u r → Guard sum p v promise → Guard sum p u promise
   put-guard v u c None promise r s e firm o d g = write-behind sum p v u promise (start p c) (physical-pages sum p tip None n) r (omega (arith, e)) d g
   put-guard v u c (Some a) promise r s e firm o d g =
@@ -104,9 +107,11 @@ module _ (sum : List ℕ → ℕ) (fits : Fits-four sum) (p : ℕ) (pos : 0 < p)
   cover-at f o k l = new-cover sum fits p small (part p tip k) (part-bytes p tip k are) (some-at k l) (part-fits p k tip) (first-only f k) (older-at f o k)
 
   byte-at : (f : Option ActiveChecksum) (k j : ℕ) → k < n → j < length (part p tip k) → getD (page-of sum p tip f k) j 0 ≡ getD tip (k * p + j) 0
-  byte-at f k j l q = page-data sum fits p small (part p tip k) (part-bytes p tip k are) (some-at k l) (part-fits p k tip) (first-only f k) j q ∙ part-at p tip k j q
+  byte-at f k j l q = page-data sum fits p small (part p tip k) (part-bytes p tip k are) (some-at k l) (part-fits p k tip) (first-only f k) j q
+      ∙ part-at p tip k j q
 
-  module _ (s t : List ℕ) (c : ℕ) (f : Option ActiveChecksum) (e : Flushed sum p s c tip f) (o : Older-kept sum (part p tip 0) f) (shows : t ≡ overwritten s (start p c) (physical-pages sum p tip f n)) where
+  module _ (s t : List ℕ) (c : ℕ) (f : Option ActiveChecksum) (e : Flushed sum p s c tip f) (o : Older-kept sum (part p tip 0) f)
+      (shows : t ≡ overwritten s (start p c) (physical-pages sum p tip f n)) where
     from : (f : Option ActiveChecksum) → Flushed sum p s c tip f → (start p c ≤ length s) × (length s ≤ start p (c + n))
     from None e = (omega (arith, e), omega (arith, e, start-add p c n))
     from (Some x) e = let w = e .whole in (omega arith, omega (arith, start-less p c (c + n) (omega arith)))
@@ -126,9 +131,13 @@ module _ (sum : List ℕ → ℕ) (fits : Fits-four sum) (p : ℕ) (pos : 0 < p)
         (λ (z : i < c). subst (Neat sum p) (sym (put-before i z)) (neat i (omega (arith, start-less p i c z, from f e .0))))
         (λ (z : c ≤ i).
         let y : i ≡ c + (i - c) = omega arith in
-        let g : i - c < n = ⊎-elim (λ (l : i < c + n). omega arith) (λ (l : c + n ≤ i). absurd (⊎-elim (λ (m : c + n < i). omega (arith, put-long, start-less p (c + n) i m)) (λ (m : i ≤ c + n). let j : i ≡ c + n = omega arith in omega (arith, put-long, ap (start p) j)) (cases-lt (c + n) i))) (cases-lt i (c + n)) in
+        let g : i - c < n = ⊎-elim (λ (l : i < c + n). omega arith) (λ (l : c + n ≤ i). absurd
+        (⊎-elim (λ (m : c + n < i). omega (arith, put-long, start-less p (c + n) i m))
+        (λ (m : i ≤ c + n). let j : i ≡ c + n = omega arith in omega (arith, put-long, ap (start p) j)) (cases-lt (c + n) i)))
+        (cases-lt i (c + n)) in
         subst (Neat sum p) (sym (ap (page-at p t) y ∙ put-page (i - c) g))
-        (new-neat sum fits p small (part p tip (i - c)) (part-bytes p tip (i - c) are) (some-at (i - c) g) (part-fits p (i - c) tip) (first-only f (i - c)) (older-at f o (i - c))))
+        (new-neat sum fits p small (part p tip (i - c)) (part-bytes p tip (i - c) are) (some-at (i - c) g) (part-fits p (i - c) tip)
+        (first-only f (i - c)) (older-at f o (i - c))))
         (cases-lt i c)
 
     -- the first m pages are full

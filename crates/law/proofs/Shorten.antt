@@ -35,26 +35,27 @@ module _ (sum : List ℕ → ℕ) (fits : Fits-four sum) (p : ℕ) (small : p �
   abbrev s3 : List ℕ
   s3 = overwritten s2 (start p c + slot-start p a) (slot-bytes 0 0)
 
-  w1 : start p c + (p + 12) ≤ length s1
-  w1 = omega (arith, slot-long p s c b (slot-bytes 0 check) (omega arith) whole)
+  whole1 : start p c + (p + 12) ≤ length s1
+  whole1 = omega (arith, slot-long p s c b (slot-bytes 0 check) (omega arith) whole)
 
-  w2 : start p c + (p + 12) ≤ length s2
-  w2 = omega (arith, slot-long p s1 c b (two-bytes r) (omega arith) w1, w1)
+  whole2 : start p c + (p + 12) ≤ length s2
+  whole2 = omega (arith, slot-long p s1 c b (two-bytes r) (omega arith) whole1, whole1)
 
-  pub w3 : start p c + (p + 12) ≤ length s3
-  w3 = omega (arith, slot-long p s2 c a (slot-bytes 0 0) (omega arith) w2, w2)
+  pub whole3 : start p c + (p + 12) ≤ length s3
+  whole3 = omega (arith, slot-long p s2 c a (slot-bytes 0 0) (omega arith) whole2, whole2)
 
   pub long3 : length s3 ≡ length s
-  long3 = slot-long p s2 c a (slot-bytes 0 0) (omega arith) w2 ∙ slot-long p s1 c b (two-bytes r) (omega arith) w1 ∙ slot-long p s c b (slot-bytes 0 check) (omega arith) whole
+  long3 = slot-long p s2 c a (slot-bytes 0 0) (omega arith) whole2 ∙ slot-long p s1 c b (two-bytes r) (omega arith) whole1
+      ∙ slot-long p s c b (slot-bytes 0 check) (omega arith) whole
 
   same1 : (k : ℕ) → k < start p c + p → getD s1 k 0 ≡ getD s k 0
   same1 k h = slot-before p s c b (slot-bytes 0 check) (omega arith) whole k h
 
   same2 : (k : ℕ) → k < start p c + p → getD s2 k 0 ≡ getD s k 0
-  same2 k h = slot-before p s1 c b (two-bytes r) (omega arith) w1 k h ∙ same1 k h
+  same2 k h = slot-before p s1 c b (two-bytes r) (omega arith) whole1 k h ∙ same1 k h
 
   before3 : (k : ℕ) → k < start p c + p → getD s3 k 0 ≡ getD s2 k 0
-  before3 k h = slot-before p s2 c a (slot-bytes 0 0) (omega arith) w2 k h
+  before3 k h = slot-before p s2 c a (slot-bytes 0 0) (omega arith) whole2 k h
 
   pub same3 : (k : ℕ) → k < start p c + p → getD s3 k 0 ≡ getD s k 0
   same3 k h = before3 k h ∙ same2 k h
@@ -64,9 +65,10 @@ module _ (sum : List ℕ → ℕ) (fits : Fits-four sum) (p : ℕ) (small : p �
 
   -- the new slot's bytes after the second write
   new2 : (k : ℕ) → k < 6 → getD s2 (start p c + (slot-start p b + k)) 0 ≡ getD (slot-bytes r check) k 0
-  new2 zero h = slot-new p s1 c b (two-bytes r) (omega arith) w1 zero (omega arith)
-  new2 (suc zero) h = slot-new p s1 c b (two-bytes r) (omega arith) w1 (suc zero) (omega arith)
-  new2 (suc (suc k)) h = slot-rest p s1 c b (two-bytes r) (omega arith) w1 (suc (suc k)) (omega arith) ∙ slot-new p s c b (slot-bytes 0 check) (omega arith) whole (suc (suc k)) h
+  new2 zero h = slot-new p s1 c b (two-bytes r) (omega arith) whole1 zero (omega arith)
+  new2 (suc zero) h = slot-new p s1 c b (two-bytes r) (omega arith) whole1 (suc zero) (omega arith)
+  new2 (suc (suc k)) h = slot-rest p s1 c b (two-bytes r) (omega arith) whole1 (suc (suc k)) (omega arith)
+      ∙ slot-new p s c b (slot-bytes 0 check) (omega arith) whole (suc (suc k)) h
 
   slot2 : slot-of p (page-at p s2 c) b ≡ record { slot = b; len = r; check = check }
   slot2 = slot-reads p (page-at p s2 c) b (slot-bytes r check) (λ k h. page-byte p s2 c (slot-start p b + k) (slot-inside p b k h) ∙ new2 k h)
@@ -82,21 +84,23 @@ module _ (sum : List ℕ → ℕ) (fits : Fits-four sum) (p : ℕ) (small : p �
         low = omega (arith, len2);
         high = omega (arith, len2);
         check = ap (λ n. sum (take n (page-at p s2 c))) len2
-            ∙ ap sum (same-take r (page-at p s c) (page-at p s2 c) (omega (arith, page-long p s c whole)) (omega (arith, page-long p s2 c w2)) (λ k h. data-stays p s s2 c whole w2 same2 k (omega arith)))
+            ∙ ap sum (same-take r (page-at p s c) (page-at p s2 c) (omega (arith, page-long p s c whole)) (omega (arith, page-long p s2 c whole2))
+            (λ k h. data-stays p s s2 c whole whole2 same2 k (omega arith)))
             ∙ sym q;
       }
 
   six3 : (k : ℕ) → k < 6 → getD s3 (start p c + (slot-start p b + k)) 0 ≡ getD s2 (start p c + (slot-start p b + k)) 0
-  six3 k h = slot-beside p s2 c a (slot-bytes 0 0) (omega arith) w2 b ba k h
+  six3 k h = slot-beside p s2 c a (slot-bytes 0 0) (omega arith) whole2 b ba k h
 
   pub slot3 : slot-of p (page-at p s3 c) b ≡ record { slot = b; len = r; check = check }
-  slot3 = slot-stays sum p s2 s3 c b w2 w3 six3 ∙ slot2
+  slot3 = slot-stays sum p s2 s3 c b whole2 whole3 six3 ∙ slot2
 
   pub valid3 : Valid sum p (page-at p s3 c) b
-  valid3 = valid-stays sum p s2 s3 c b w2 w3 six3 (λ k h. before3 (start p c + k) (omega (arith, len2))) valid2
+  valid3 = valid-stays sum p s2 s3 c b whole2 whole3 six3 (λ k h. before3 (start p c + k) (omega (arith, len2))) valid2
 
   zero3 : slot-of p (page-at p s3 c) a .len ≡ 0
-  zero3 = ap (λ (x : ActiveChecksum). x .len) (slot-reads p (page-at p s3 c) a (slot-bytes 0 0) (λ k h. page-byte p s3 c (slot-start p a + k) (slot-inside p a k h) ∙ slot-new p s2 c a (slot-bytes 0 0) (omega arith) w2 k h))
+  zero3 = ap (λ (x : ActiveChecksum). x .len) (slot-reads p (page-at p s3 c) a (slot-bytes 0 0)
+      (λ k h. page-byte p s3 c (slot-start p a + k) (slot-inside p a k h) ∙ slot-new p s2 c a (slot-bytes 0 0) (omega arith) whole2 k h))
 
   pub neat3 : Neat sum p (page-at p s3 c)
   neat3 w = ⊎-elim
@@ -107,17 +111,17 @@ module _ (sum : List ℕ → ℕ) (fits : Fits-four sum) (p : ℕ) (small : p �
   pub cover3 : cover sum (page-at p s3 c) ≡ r
   cover3 =
       let l : slot-of p (page-at p s3 c) b .len ≡ r = ap (λ (x : ActiveChecksum). x .len) slot3 in
-      let m = longest sum p (page-at p s3 c) (page-long p s3 c w3) b valid3 in
+      let m = longest sum p (page-at p s3 c) (page-long p s3 c whole3) b valid3 in
       ⊎-elim (λ e. omega arith)
       (λ z. ⊎-elim
       (λ (e : z .0 ≡ a). let q = subst (λ w. slot-of p (page-at p s3 c) w .len ≡ cover sum (page-at p s3 c)) e (z .1 .1) in omega (arith, zero3))
       (λ (e : z .0 ≡ b). let q = subst (λ w. slot-of p (page-at p s3 c) w .len ≡ cover sum (page-at p s3 c)) e (z .1 .1) in omega arith)
       (one-of a b (z .0) ab))
-      (by-some sum p (page-at p s3 c) (page-long p s3 c w3))
+      (by-some sum p (page-at p s3 c) (page-long p s3 c whole3))
 
   -- the old slot is valid until the new one is
   pub valid1 : Valid sum p (page-at p s c) a → Valid sum p (page-at p s1 c) a
-  valid1 good = valid-stays sum p s s1 c a whole w1 old1 (λ k h. same1 (start p c + k) (omega (arith, good .high))) good
+  valid1 good = valid-stays sum p s s1 c a whole whole1 old1 (λ k h. same1 (start p c + k) (omega (arith, good .high))) good
 
   pub slot1 : slot-of p (page-at p s1 c) a ≡ slot-of p (page-at p s c) a
-  slot1 = slot-stays sum p s s1 c a whole w1 old1
+  slot1 = slot-stays sum p s s1 c a whole whole1 old1

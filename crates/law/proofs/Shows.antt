@@ -39,22 +39,26 @@ places-bytes sum page (suc n) h l =
     ∙ ap (map byte) (sym (take-more page n 0 (omega arith)) ∙ ap (λ m. take m page) (let z : n + 1 ≡ suc n = omega arith in z))
 
 module _ (sum : List ℕ → ℕ) (p : ℕ) (s : List ℕ) where
-  rows-bytes : (n : ℕ) → ((i : ℕ) → i < n → (cover sum (page-at p s i) ≡ p) × (length (page-at p s i) ≡ p + 12)) → full-rows sum p s n ≡ map byte (covered-bytes sum p s n)
+  rows-bytes : (n : ℕ) → ((i : ℕ) → i < n → (cover sum (page-at p s i) ≡ p) × (length (page-at p s i) ≡ p + 12))
+      → full-rows sum p s n ≡ map byte (covered-bytes sum p s n)
   unfolding full-rows covered-bytes
   rows-bytes zero h = refl
   rows-bytes (suc n) h =
       let c = h n (omega arith) in
       ap (λ x. x ++ page-places sum (page-at p s n) p) (rows-bytes n (λ i l. h i (omega arith)))
-      ∙ ap (λ x. map byte (covered-bytes sum p s n) ++ x) (places-bytes sum (page-at p s n) p (omega (arith, c .0)) (omega (arith, c .1)) ∙ ap (λ m. map byte (take m (page-at p s n))) (sym (c .0)))
+      ∙ ap (λ x. map byte (covered-bytes sum p s n) ++ x) (places-bytes sum (page-at p s n) p (omega (arith, c .0)) (omega (arith, c .1))
+      ∙ ap (λ m. map byte (take m (page-at p s n))) (sym (c .0)))
       ∙ sym (map-append byte (covered-bytes sum p s n) (take (cover sum (page-at p s n)) (page-at p s n)))
 
-  log-bytes : (n : ℕ) → ((i : ℕ) → i + 1 < n → cover sum (page-at p s i) ≡ p) → ((i : ℕ) → i < n → start p i + (p + 12) ≤ length s) → pages-log sum p s n ≡ map byte (covered-bytes sum p s n)
+  log-bytes : (n : ℕ) → ((i : ℕ) → i + 1 < n → cover sum (page-at p s i) ≡ p) → ((i : ℕ) → i < n → start p i + (p + 12) ≤ length s)
+      → pages-log sum p s n ≡ map byte (covered-bytes sum p s n)
   unfolding pages-log covered-bytes
   log-bytes zero h l = refl
   log-bytes (suc n) h l =
       ap (λ x. x ++ page-places sum (page-at p s n) (cover sum (page-at p s n))) (rows-bytes n (λ i q. (h i (omega arith), page-long p s i (l i (omega arith)))))
       ∙ ap (λ x. map byte (covered-bytes sum p s n) ++ x)
-      (places-bytes sum (page-at p s n) (cover sum (page-at p s n)) (omega arith) (omega (arith, covers-few sum p s n (l n (omega arith)), page-long p s n (l n (omega arith)))))
+      (places-bytes sum (page-at p s n) (cover sum (page-at p s n)) (omega arith)
+      (omega (arith, covers-few sum p s n (l n (omega arith)), page-long p s n (l n (omega arith)))))
       ∙ sym (map-append byte (covered-bytes sum p s n) (take (cover sum (page-at p s n)) (page-at p s n)))
 
   scan-reads : (n : ℕ) → Reads-only (scan-row sum p s n)
@@ -63,7 +67,8 @@ module _ (sum : List ℕ → ℕ) (p : ℕ) (s : List ℕ) where
   scan-reads (suc n) = cond-both (eqb (cover sum (page-at p s n)) 0) (scan-row sum p s n) [] Reads-only (λ _. scan-reads n) (λ _. tt)
 
   -- k whole pages, all but the last of them Full and the last not Rejected
-  module _ (pos : 0 < p) (k : ℕ) (long : length s ≡ start p k) (full : (i : ℕ) → i + 1 < k → cover sum (page-at p s i) ≡ p) (last : (m : ℕ) → k ≡ suc m → 0 < cover sum (page-at p s m)) where
+  module _ (pos : 0 < p) (k : ℕ) (long : length s ≡ start p k) (full : (i : ℕ) → i + 1 < k → cover sum (page-at p s i) ≡ p)
+      (last : (m : ℕ) → k ≡ suc m → 0 < cover sum (page-at p s m)) where
     inside : (i : ℕ) → i < k → start p i + (p + 12) ≤ length s
     inside i h = omega (arith, long, start-less p i k h)
 
@@ -99,7 +104,8 @@ module _ (sum : List ℕ → ℕ) (p : ℕ) (s : List ℕ) where
       reads-only = opens-dry;
     }
 
-module _ (sum : List ℕ → ℕ) (p : ℕ) (pos : 0 < p) (s tip : List ℕ) (log : List Place) (whole : No-gap log) (c : ℕ) (t : Tracks sum p s c tip log) (from : start p c ≤ length s) where
+module _ (sum : List ℕ → ℕ) (p : ℕ) (pos : 0 < p) (s tip : List ℕ) (log : List Place) (whole : No-gap log) (c : ℕ) (t : Tracks sum p s c tip log)
+    (from : start p c ≤ length s) where
   full-page : (i : ℕ) → i < c → cover sum (page-at p s i) ≡ p
   full-page i h =
       let x = whole (i * p + (p - 1)) (omega (arith, t .long, mul-add-lt i p (p - 1) c h (omega arith))) in
@@ -107,7 +113,8 @@ module _ (sum : List ℕ → ℕ) (p : ℕ) (pos : 0 < p) (s tip : List ℕ) (lo
       omega (arith, y .0, covers-few sum p s i (omega (arith, start-less p i c h)))
 
   -- the log of k pages is the log, where they have as many places and agree
-  equal : (k : ℕ) → length (pages-log sum p s k) ≡ length log → length log ≤ k * p → ((i j : ℕ) → i < k → j < p → i * p + j < length log → getD log (i * p + j) gap ≡ page-place sum (page-at p s i) j) → pages-log sum p s k ≡ log
+  equal : (k : ℕ) → length (pages-log sum p s k) ≡ length log → length log ≤ k * p
+      → ((i j : ℕ) → i < k → j < p → i * p + j < length log → getD log (i * p + j) gap ≡ page-place sum (page-at p s i) j) → pages-log sum p s k ≡ log
   equal k l few at = ext-getD gap (pages-log sum p s k) log l
       (λ q h.
       let a : q / p * p + q % p ≡ q = div-add-mod' q p in
@@ -130,7 +137,8 @@ module _ (sum : List ℕ → ℕ) (p : ℕ) (pos : 0 < p) (s tip : List ℕ) (lo
       none-left (suc m) q =
           let times : c * p ≡ (m + 1) * p = ap (λ x. x * p) (q ∙ omega arith) in
           exactly sum p s pos (suc m) (sym e ∙ ap (start p) q) (λ i h. full-page i (omega arith)) (λ k h. omega (arith, full-page k (omega (arith, h)))) log
-          (equal (suc m) (log-long sum p s m ∙ omega (arith, full-page m (omega arith), t .long, v)) (omega (arith, t .long, v)) (λ i j h l _. t .in-page i j (omega arith) l))
+          (equal (suc m) (log-long sum p s m ∙ omega (arith, full-page m (omega arith), t .long, v)) (omega (arith, t .long, v))
+          (λ i j h l _. t .in-page i j (omega arith) l))
   shows-log (Some a) e v =
       let n : slot-of p (page-at p s c) (a .slot) .len ≡ a .len = ap (λ (z : ActiveChecksum). z .len) (e .there) in
       exactly sum p s pos (suc c) (sym (e .whole) ∙ sym (ap (start p) (let z : suc c ≡ c + 1 = omega arith in z) ∙ start-more p c))
@@ -144,5 +152,6 @@ module _ (sum : List ℕ → ℕ) (p : ℕ) (pos : 0 < p) (s tip : List ℕ) (lo
       subst (λ y. getD log (y * p + j) gap ≡ page-place sum (page-at p s y) j) (sym z)
       (let y = subst (λ y. y * p + j < length log) z r in
       let k : j < length tip = omega (arith, t .long) in
-      t .in-tip j k ∙ ap byte (sym (page-byte p s c j (omega arith) ∙ e .same j (omega (arith, v)))) ∙ sym (place-covered sum (page-at p s c) j (omega (arith, v, e .most)))))
+      t .in-tip j k ∙ ap byte (sym (page-byte p s c j (omega arith) ∙ e .same j (omega (arith, v))))
+      ∙ sym (place-covered sum (page-at p s c) j (omega (arith, v, e .most)))))
       (cases-lt i c)))

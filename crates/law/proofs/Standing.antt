@@ -22,9 +22,6 @@ abbrev pub Byte-stays : BlobValue → BlobValue → ℕ → Type 0
 Byte-stays v u k = v .firm k ≡ true → (getD (u .shown) k 0 ≡ getD (v .shown) k 0) × (u .firm k ≡ true)
 
 module _ (sum : List ℕ → ℕ) (p : ℕ) (v : BlobValue) (i j b : ℕ) (w : Slot) (g : Backed sum p v i j b w) where
-  n : ℕ
-  n = slot-of p (page-at p (v .shown) i) w .len
-
   -- other bytes that agree at the firm places
   pub stood-by : (t : List ℕ) → start p i + (p + 12) ≤ length t → ((k : ℕ) → v .firm k ≡ true → getD t k 0 ≡ getD (v .shown) k 0) → Stood sum p t i j b
   stood-by t l e =
@@ -73,7 +70,8 @@ fewer sum p v promise less q g i j b h e = g i j b h (q (i * p + j) b e)
 
 -- where all is firm, all that stands is guarded
 pub firm-long : (v : BlobValue) → Sound v → Firm v → length (v .shown) ≤ v .shortest
-firm-long v s f = ⊎-elim (λ h. omega (arith, s .firm-below (length (v .shown) - 1) (f (length (v .shown) - 1) (omega arith)))) (λ h. omega arith) (cases-lt 0 (length (v .shown)))
+firm-long v s f = ⊎-elim (λ h. omega (arith, s .firm-below (length (v .shown) - 1) (f (length (v .shown) - 1) (omega arith)))) (λ h. omega arith)
+    (cases-lt 0 (length (v .shown)))
 
 pub guarded : (sum : List ℕ → ℕ) (p : ℕ) (v : BlobValue) (row : List Place) → Sound v → Firm v → Stands sum p (v .shown) row → Guard sum p v row
 guarded sum p v row s f stand i j b h e =

@@ -33,24 +33,29 @@ use Rattle.law.proofs.Carrying.{Stage, ran-split, read-stop, reject-stop, stop
 use Rattle.law.proofs.Cut.{cut-inside, cut-ran, cut-stopped, even-kept, log-there, page-earlier, slot-guard, tracks-cut}
 use Rattle.law.proofs.Guard.{Firm, Guard}
 use Rattle.law.proofs.Kept.{read-keeps}
-use Rattle.law.proofs.Open.{Cutted}
+use Rattle.law.proofs.Open.{Cut-to}
 use Rattle.law.proofs.Places.{other-twice, page-byte, page-long, start-less, start-more}
 use Rattle.law.proofs.Put.{page-bytes}
-use Rattle.law.proofs.Shorten.{cover3, len2, long3, neat3, same3, slot1, slot3, valid1, valid2, valid3, w3}
+use Rattle.law.proofs.Shorten.{cover3, len2, long3, neat3, same3, slot1, slot3, valid1, valid2, valid3, whole3}
 use Rattle.law.proofs.Slots.{Neat, Valid, slot-of, slot-start}
 use Rattle.law.proofs.Steps.{Kept, bytes-front, nonzero}
 use Rattle.law.proofs.Verdicts.{Told, longest, verdict-told}
 use Rattle.law.proofs.Writer.{All-neat, Counts, Even, Inv, Tracks}
 
 -- the slot that a verdict goes by stands in the page and is valid
-by-active : (sum : List ℕ → ℕ) (p : ℕ) (page : List ℕ) (long : length page ≡ p + 12) (x : Judged) (a : ActiveChecksum) → Told sum p page long x → active-of x ≡ Some a → (slot-of p page (a .slot) ≡ a) × Valid sum p page (a .slot)
+by-active : (sum : List ℕ → ℕ) (p : ℕ) (page : List ℕ) (long : length page ≡ p + 12) (x : Judged) (a : ActiveChecksum) → Told sum p page long x
+    → active-of x ≡ Some a → (slot-of p page (a .slot) ≡ a) × Valid sum p page (a .slot)
 unfolding Told
 by-active sum p page long rejected a t e = let z : _≡_ {A = ℕ} 0 1 = cc in absurd (omega arith)
-by-active sum p page long (partial b part) a t e = let q : b ≡ a = cc in subst (λ (y : ActiveChecksum). (slot-of p page (y .slot) ≡ y) × Valid sum p page (y .slot)) q (t .0, t .1)
-by-active sum p page long (full b part) a t e = let q : b ≡ a = cc in subst (λ (y : ActiveChecksum). (slot-of p page (y .slot) ≡ y) × Valid sum p page (y .slot)) q (t .0, t .1)
+by-active sum p page long (partial b part) a t e = let q : b ≡ a = cc in
+    subst (λ (y : ActiveChecksum). (slot-of p page (y .slot) ≡ y) × Valid sum p page (y .slot)) q (t .0, t .1)
+by-active sum p page long (full b part) a t e = let q : b ≡ a = cc in
+    subst (λ (y : ActiveChecksum). (slot-of p page (y .slot) ≡ y) × Valid sum p page (y .slot)) q (t .0, t .1)
 
-module _ (sum : List ℕ → ℕ) (fits : Fits-four sum) (p : ℕ) (pos : 0 < p) (small : p ≤ 65535) (v : BlobValue) (w : WriterState) (log promise : List Place) (i : Inv sum p v w log promise)
-    (firm : Firm v) (even : Even (w .tip) (w .flushed)) (n : ℕ) (less : n < size p w) (few : (q b : ℕ) → getD promise q gap ≡ byte b → q < n) (odd : 0 < n % p) where
+module _ (sum : List ℕ → ℕ) (fits : Fits-four sum) (p : ℕ) (pos : 0 < p) (small : p ≤ 65535) (v : BlobValue) (w : WriterState)
+    (log promise : List Place) (i : Inv sum p v w log promise)
+    (firm : Firm v) (even : Even (w .tip) (w .flushed)) (n : ℕ) (less : n < size p w) (few : (q b : ℕ) → getD promise q gap ≡ byte b → q < n)
+    (odd : 0 < n % p) where
   rp : n % p < p
   rp = mod-below n p pos
 
@@ -66,7 +71,7 @@ module _ (sum : List ℕ → ℕ) (fits : Fits-four sum) (p : ℕ) (pos : 0 < p)
   }
 
   -- the writes over a blob where the slot a of the page is valid, and covers n % p bytes
-  module _ (x : BlobValue) (c : Cutted sum p v x (n / p + 1) promise) (a b : Slot) (ab : other-slot a ≡ b) (ba : other-slot b ≡ a)
+  module _ (x : BlobValue) (c : Cut-to sum p v x (n / p + 1) promise) (a b : Slot) (ab : other-slot a ≡ b) (ba : other-slot b ≡ a)
       (good : Valid sum p (page-at p (x .shown) (n / p)) a) (r : n % p ≤ slot-of p (page-at p (x .shown) (n / p)) a .len) where
     whole : start p (n / p) + (p + 12) ≤ length (x .shown)
     whole = omega (arith, c .long, start-more p (n / p))
@@ -95,19 +100,23 @@ module _ (sum : List ℕ → ℕ) (fits : Fits-four sum) (p : ℕ) (pos : 0 < p)
     g1 : (y : BlobValue) (q : Result (Unit {0}) Fault) → Wrote x o1 (slot-bytes 0 sum-now) y q → Guard sum p y promise
     g1 = slot-guard sum p pos v w log promise i firm even n less few x a (c .firm) (c .guard) good r b ab (slot-bytes 0 sum-now) (omega arith)
 
-    g2 : (x1 : BlobValue) → Stage sum p promise t1 x1 → (y : BlobValue) (q : Result (Unit {0}) Fault) → Wrote x1 o1 (two-bytes (n % p)) y q → Guard sum p y promise
+    g2 : (x1 : BlobValue) → Stage sum p promise t1 x1 → (y : BlobValue) (q : Result (Unit {0}) Fault) → Wrote x1 o1 (two-bytes (n % p)) y q
+        → Guard sum p y promise
     g2 x1 s = slot-guard sum p pos v w log promise i firm even n less few x1 a (s .settled .firm) (s .guard)
         (subst (λ z. Valid sum p (page-at p z (n / p)) a) (sym (s .shows)) (valid1 sum fits p small (x .shown) (n / p) (n % p) a b ab ba whole are odd rp good))
-        (subst (λ z. n % p ≤ slot-of p (page-at p z (n / p)) a .len) (sym (s .shows)) (subst (λ (z : ActiveChecksum). n % p ≤ z .len) (sym (slot1 sum fits p small (x .shown) (n / p) (n % p) a b ab ba whole are odd rp)) r))
+        (subst (λ z. n % p ≤ slot-of p (page-at p z (n / p)) a .len) (sym (s .shows))
+        (subst (λ (z : ActiveChecksum). n % p ≤ z .len) (sym (slot1 sum fits p small (x .shown) (n / p) (n % p) a b ab ba whole are odd rp)) r))
         b ab (two-bytes (n % p)) (omega arith)
 
     second : (x1 x2 : BlobValue) → Stage sum p promise t1 x1 → Stage sum p promise (overwritten (x1 .shown) o1 (two-bytes (n % p))) x2 → x2 .shown ≡ t2
     second x1 x2 s t = t .shows ∙ ap (λ z. overwritten z o1 (two-bytes (n % p))) (s .shows)
 
-    g3 : (x2 : BlobValue) → Settled x2 → Guard sum p x2 promise → x2 .shown ≡ t2 → (y : BlobValue) (q : Result (Unit {0}) Fault) → Wrote x2 o3 (slot-bytes 0 0) y q → Guard sum p y promise
+    g3 : (x2 : BlobValue) → Settled x2 → Guard sum p x2 promise → x2 .shown ≡ t2 → (y : BlobValue) (q : Result (Unit {0}) Fault)
+        → Wrote x2 o3 (slot-bytes 0 0) y q → Guard sum p y promise
     g3 x2 f g e = slot-guard sum p pos v w log promise i firm even n less few x2 b (f .firm) g
         (subst (λ z. Valid sum p (page-at p z (n / p)) b) (sym e) (valid2 sum fits p small (x .shown) (n / p) (n % p) a b ab ba whole are odd rp))
-        (subst (λ z. n % p ≤ slot-of p (page-at p z (n / p)) b .len) (sym e) (omega (arith, len2 sum fits p small (x .shown) (n / p) (n % p) a b ab ba whole are odd rp)))
+        (subst (λ z. n % p ≤ slot-of p (page-at p z (n / p)) b .len) (sym e)
+        (omega (arith, len2 sum fits p small (x .shown) (n / p) (n % p) a b ab ba whole are odd rp)))
         a ba (slot-bytes 0 0) (omega arith)
 
     abbrev after-second : List Op
@@ -139,7 +148,8 @@ module _ (sum : List ℕ → ℕ) (fits : Fits-four sum) (p : ℕ) (pos : 0 < p)
         (λ d2.
         let z2 = d2 .1 .0 in
         ⊎-elim (λ y. y) (λ d3. absurd (d3 .1 .1))
-        (two-stopped sum p promise (d2 .0) o3 (slot-bytes 0 0) (z2 .guard) (g3 (d2 .0) (z2 .settled) (z2 .guard) (second (d1 .0) (d2 .0) (d1 .1 .0) (d2 .1 .0))) u k [] (d2 .1 .1)))
+        (two-stopped sum p promise (d2 .0) o3 (slot-bytes 0 0) (z2 .guard)
+        (g3 (d2 .0) (z2 .settled) (z2 .guard) (second (d1 .0) (d2 .0) (d1 .1 .0) (d2 .1 .0))) u k [] (d2 .1 .1)))
         (two-stopped sum p promise (d1 .0) o1 (two-bytes (n % p)) (z1 .guard) (g2 (d1 .0) z1) u k after-second (d1 .1 .1)))
         (two-stopped sum p promise x o1 (slot-bytes 0 sum-now) (c .guard) g1 u k after-first d)
 
@@ -148,7 +158,8 @@ module _ (sum : List ℕ → ℕ) (fits : Fits-four sum) (p : ℕ) (pos : 0 < p)
 
     earlier : (j : ℕ) → j < n / p → page-at p t3 j ≡ page-at p (v .shown) j
     earlier j h =
-        page-earlier p (x .shown) t3 (n / p) whole (w3 sum fits p small (x .shown) (n / p) (n % p) a b ab ba whole are odd rp) (same3 sum fits p small (x .shown) (n / p) (n % p) a b ab ba whole are odd rp) j h
+        page-earlier p (x .shown) t3 (n / p) whole (whole3 sum fits p small (x .shown) (n / p) (n % p) a b ab ba whole are odd rp)
+        (same3 sum fits p small (x .shown) (n / p) (n % p) a b ab ba whole are odd rp) j h
         ∙ c .page j (omega arith)
 
     shorten-neat : All-neat sum p (v .shown) → All-neat sum p t3
@@ -168,22 +179,24 @@ module _ (sum : List ℕ → ℕ) (fits : Fits-four sum) (p : ℕ) (pos : 0 < p)
         let e = z .shows in
         let lp : length (page-at p (x .shown) (n / p)) ≡ p + 12 = page-long p (x .shown) (n / p) whole in
         let lt : length (take (n % p) (page-at p (x .shown) (n / p))) ≡ n % p = length-take (n % p) (page-at p (x .shown) (n / p)) ∙ omega (arith, lp, rp) in
-        let S3 = same3 sum fits p small (x .shown) (n / p) (n % p) a b ab ba whole are odd rp in
+        let kept = same3 sum fits p small (x .shown) (n / p) (n % p) a b ab ba whole are odd rp in
         let cov = longest sum p (page-at p (x .shown) (n / p)) lp a good in
         let there : page-at p (x .shown) (n / p) ≡ page-at p (v .shown) (n / p) = c .page (n / p) (omega arith) in
         record {
           sound = z .sound;
           guard = z .guard;
           bytes = bytes-front (n % p) (page-at p (x .shown) (n / p)) are;
-          flushed = subst (λ t. Counts sum p t (n / p) (take (n % p) (page-at p (x .shown) (n / p))) (record { slot = b; len = n % p; check = sum-now })) (sym e) (record {
-            whole = sym lasting;
-            there = slot3 sum fits p small (x .shown) (n / p) (n % p) a b ab ba whole are odd rp;
-            valid = valid3 sum fits p small (x .shown) (n / p) (n % p) a b ab ba whole are odd rp;
-            most = cover3 sum fits p small (x .shown) (n / p) (n % p) a b ab ba whole are odd rp;
-            short = rp;
-            under = omega (arith, lt);
-            same = λ k h. S3 (start p (n / p) + k) (omega (arith, rp)) ∙ sym (getD-take (n % p) (page-at p (x .shown) (n / p)) k 0 h ∙ page-byte p (x .shown) (n / p) k (omega (arith, rp)));
-          });
+          flushed = subst (λ t. Counts sum p t (n / p) (take (n % p) (page-at p (x .shown) (n / p)))
+              (record { slot = b; len = n % p; check = sum-now })) (sym e) (record {
+                whole = sym lasting;
+                there = slot3 sum fits p small (x .shown) (n / p) (n % p) a b ab ba whole are odd rp;
+                valid = valid3 sum fits p small (x .shown) (n / p) (n % p) a b ab ba whole are odd rp;
+                most = cover3 sum fits p small (x .shown) (n / p) (n % p) a b ab ba whole are odd rp;
+                short = rp;
+                under = omega (arith, lt);
+                same = λ k h. kept (start p (n / p) + k) (omega (arith, rp))
+                    ∙ sym (getD-take (n % p) (page-at p (x .shown) (n / p)) k 0 h ∙ page-byte p (x .shown) (n / p) k (omega (arith, rp)));
+              });
           tracks = subst (λ t. Tracks sum p t (n / p) (take (n % p) (page-at p (x .shown) (n / p))) (take n log)) (sym e)
               (tracks-cut sum p pos v w log promise i firm even n less few t3 (take (n % p) (page-at p (x .shown) (n / p))) earlier lt
               (λ k h. log-there sum p pos v w log promise i firm even n less few k h (subst (λ y. k < cover sum y) there (omega (arith, cov, r)))
@@ -196,14 +209,16 @@ module _ (sum : List ℕ → ℕ) (fits : Fits-four sum) (p : ℕ) (pos : 0 < p)
   pages : pages-for p n ≡ n / p + 1
   pages = cond-false (eqb (n % p) 0) _ _ (ne-eqb _ _ (λ e. omega arith))
 
-  cutted : (u : BlobValue) → Carried v (resize-row p n w) u (Ok tt) → Cutted sum p v u (n / p + 1) promise
-  cutted u d = subst (λ m. Cutted sum p v u m promise) pages (cut-ran sum p pos v w log promise i firm even n less few u d .0)
+  cut-here : (u : BlobValue) → Carried v (resize-row p n w) u (Ok tt) → Cut-to sum p v u (n / p + 1) promise
+  cut-here u d = subst (λ m. Cut-to sum p v u m promise) pages (cut-ran sum p pos v w log promise i firm even n less few u d .0)
 
   read-stopped : (u m : BlobValue) (k : StateRefusal) → Guard sum p m promise → Read-stopped m (start p (n / p)) (p + 12) u k → Guard sum p u promise
-  read-stopped u m k g d = read-stop (λ x. Guard sum p x promise) m u g (start p (n / p)) (p + 12) k (λ before after r x. read-keeps sum p m u promise (start p (n / p)) before after r x g) d
+  read-stopped u m k g d = read-stop (λ x. Guard sum p x promise) m u g (start p (n / p)) (p + 12) k
+      (λ before after r x. read-keeps sum p m u promise (start p (n / p)) before after r x g) d
 
   -- the page is read, and given up
-  reject-kept : (to : WriterState) → Kept sum p v (record { ops = resize-row p n w ++ (reads (start p (n / p)) (p + 12) ∷ rejects ∷ []); to = to }) (take n log) promise
+  reject-kept : (to : WriterState) → Kept sum p v (record { ops = resize-row p n w ++ (reads (start p (n / p)) (p + 12) ∷ rejects ∷ []); to = to })
+      (take n log) promise
   reject-kept to =
       let never : (u : BlobValue) → Carried v (resize-row p n w ++ (reads (start p (n / p)) (p + 12) ∷ rejects ∷ [])) u (Ok tt) → ⊥
       = λ u d. ran-split v u (resize-row p n w) (reads (start p (n / p)) (p + 12) ∷ rejects ∷ []) d .1 .1 .1 .2 .1 .1 in
@@ -211,7 +226,7 @@ module _ (sum : List ℕ → ℕ) (fits : Fits-four sum) (p : ℕ) (pos : 0 < p)
         ran = λ u d. absurd (never u d);
         stopped = λ u k d. ⊎-elim (λ y. cut-stopped sum p pos v w log promise i firm even n less few u k y)
             (λ y.
-            let c = cutted (y .0) (y .1 .0) in
+            let c = cut-here (y .0) (y .1 .0) in
             ⊎-elim
             (λ z. (z .0, read-stopped u (y .0) k (c .guard) (z .1)))
             (λ z. ⊎-elim
@@ -224,26 +239,30 @@ module _ (sum : List ℕ → ℕ) (fits : Fits-four sum) (p : ℕ) (pos : 0 < p)
       }
 
   -- the page is read, and its slot a covers enough
-  module _ (a : ActiveChecksum) (enough : n % p ≤ a .len) (page : List ℕ) (reads-as : page ≡ page-at p (resize-shows p n w (v .shown)) (n / p)) (by : active-of (verdict-of sum page) ≡ Some a) where
+  module _ (a : ActiveChecksum) (enough : n % p ≤ a .len) (page : List ℕ) (reads-as : page ≡ page-at p (resize-shows p n w (v .shown)) (n / p))
+      (by : active-of (verdict-of sum page) ≡ Some a) where
     abbrev shorten-tail : List Op
     shorten-tail = shorten-row p (n / p) (a .slot) (n % p) (sum (take (n % p) page))
 
     -- what holds of the blob after the resize
     record Ready (x : BlobValue) : Type 0 where
-      pub cut : Cutted sum p v x (n / p + 1) promise
+      pub cut : Cut-to sum p v x (n / p + 1) promise
       pub here : page-at p (x .shown) (n / p) ≡ page
       pub good : Valid sum p (page-at p (x .shown) (n / p)) (a .slot)
       pub long : n % p ≤ slot-of p (page-at p (x .shown) (n / p)) (a .slot) .len
 
     ready : (x : BlobValue) → Carried v (resize-row p n w) x (Ok tt) → Ready x
     ready x d =
-        let c = cutted x d in
-        let here : page-at p (x .shown) (n / p) ≡ page = ap (λ z. page-at p z (n / p)) (cut-ran sum p pos v w log promise i firm even n less few x d .1) ∙ sym reads-as in
+        let c = cut-here x d in
+        let here : page-at p (x .shown) (n / p) ≡ page = ap (λ z. page-at p z (n / p))
+        (cut-ran sum p pos v w log promise i firm even n less few x d .1) ∙ sym reads-as in
         let long = page-long p (x .shown) (n / p) (omega (arith, c .long, start-more p (n / p))) in
-        let z = by-active sum p (page-at p (x .shown) (n / p)) long (verdict-of sum (page-at p (x .shown) (n / p))) a (verdict-told sum p (page-at p (x .shown) (n / p)) long) (ap (λ y. active-of (verdict-of sum y)) here ∙ by) in
+        let z = by-active sum p (page-at p (x .shown) (n / p)) long (verdict-of sum (page-at p (x .shown) (n / p))) a
+        (verdict-told sum p (page-at p (x .shown) (n / p)) long) (ap (λ y. active-of (verdict-of sum y)) here ∙ by) in
         record { cut = c; here = here; good = z .1; long = subst (λ (y : ActiveChecksum). n % p ≤ y .len) (sym (z .0)) enough }
 
-    run : (x : BlobValue) → Ready x → (u : BlobValue) (r : Result (Unit {0}) StateRefusal) → Carried x shorten-tail u r → Carried x (shorten-row p (n / p) (a .slot) (n % p) (sum (take (n % p) (page-at p (x .shown) (n / p))))) u r
+    run : (x : BlobValue) → Ready x → (u : BlobValue) (r : Result (Unit {0}) StateRefusal) → Carried x shorten-tail u r
+        → Carried x (shorten-row p (n / p) (a .slot) (n % p) (sum (take (n % p) (page-at p (x .shown) (n / p))))) u r
     run x q u r d = subst (λ y. Carried x (shorten-row p (n / p) (a .slot) (n % p) (sum (take (n % p) y))) u r) (sym (q .here)) d
 
     done : (u : BlobValue) → Carried v (resize-row p n w ++ (reads (start p (n / p)) (p + 12) ∷ shorten-tail)) u (Ok tt)
@@ -253,7 +272,11 @@ module _ (sum : List ℕ → ℕ) (fits : Fits-four sum) (p : ℕ) (pos : 0 < p)
         let b = y .1 .1 in
         (y .0, (y .1 .0, subst (λ z. Carried z shorten-tail u (Ok tt)) (b .1 .1 .2) (b .1 .2)))
 
-    shorten-kept : Kept sum p v (record { ops = resize-row p n w ++ (reads (start p (n / p)) (p + 12) ∷ shorten-tail); to = left page (other-slot (a .slot)) }) (take n log) promise
+    shorten-kept : Kept sum p v (record {
+      ops = resize-row p n w ++ (reads (start p (n / p)) (p + 12) ∷ shorten-tail);
+      to = left page
+          (other-slot (a .slot));
+    }) (take n log) promise
     shorten-kept = record {
       ran = λ u d.
           let y = done u d in
@@ -274,25 +297,39 @@ module _ (sum : List ℕ → ℕ) (fits : Fits-four sum) (p : ℕ) (pos : 0 < p)
       neat = λ u d neat.
           let y = done u d in
           let q = ready (y .0) (y .1 .0) in
-          let z = shortened (y .0) (q .cut) (a .slot) (other-slot (a .slot)) refl (other-twice (a .slot)) (q .good) (q .long) u (run (y .0) q u (Ok tt) (y .1 .1)) in
-          subst (All-neat sum p) (sym (z .shows)) (shorten-neat (y .0) (q .cut) (a .slot) (other-slot (a .slot)) refl (other-twice (a .slot)) (q .good) (q .long) neat);
+          let z = shortened (y .0) (q .cut) (a .slot) (other-slot (a .slot)) refl (other-twice (a .slot)) (q .good) (q .long) u
+          (run (y .0) q u (Ok tt) (y .1 .1)) in
+          subst (All-neat sum p) (sym (z .shows)) (shorten-neat (y .0) (q .cut) (a .slot) (other-slot (a .slot)) refl (other-twice (a .slot))
+          (q .good) (q .long) neat);
     }
 
   odd-kept : (page : List ℕ) → page ≡ page-at p (resize-shows p n w (v .shown)) (n / p) → (act : Option ActiveChecksum) → active-of (verdict-of sum page) ≡ act
       → Kept sum p v (record {
         ops = resize-row p n w ++ (reads (start p (n / p)) (p + 12) ∷ shorten-ops sum p (n / p) (n % p) page act);
-        to = record { capacity = w .capacity; page = n / p; tip = take (n % p) page; flushed = shortened-slot sum (n % p) page act; durable = shortened-slot sum (n % p) page act; mark = Clean };
+        to = record {
+          capacity = w .capacity;
+          page = n / p;
+          tip = take (n % p) page;
+          flushed = shortened-slot sum
+              (n % p) page act;
+          durable = shortened-slot sum (n % p) page act;
+          mark = Clean;
+        };
       }) (take n log) promise
   odd-kept page e None q = reject-kept _
   odd-kept page e (Some a) q = cond-both (leb (n % p) (a .len)) (shorten-row p (n / p) (a .slot) (n % p) (sum (take (n % p) page))) (rejects ∷ [])
-      (λ ops. Kept sum p v (record { ops = resize-row p n w ++ (reads (start p (n / p)) (p + 12) ∷ ops); to = left page (other-slot (a .slot)) }) (take n log) promise)
+      (λ ops. Kept sum p v (record { ops = resize-row p n w ++ (reads (start p (n / p)) (p + 12) ∷ ops); to = left page (other-slot (a .slot)) })
+      (take n log) promise)
       (λ l. shorten-kept a (leb-true _ _ l) page e q)
       (λ _. reject-kept (left page (other-slot (a .slot))))
 
-pub cut-kept : (sum : List ℕ → ℕ) → Fits-four sum → (p : ℕ) → 0 < p → p ≤ 65535 → (v : BlobValue) (w : WriterState) (log promise : List Place) → Inv sum p v w log promise
+pub cut-kept : (sum : List ℕ → ℕ) → Fits-four sum → (p : ℕ) → 0 < p → p ≤ 65535 → (v : BlobValue) (w : WriterState) (log promise : List Place)
+    → Inv sum p v w log promise
     → Firm v → Even (w .tip) (w .flushed) → (n : ℕ) → n < size p w → ((q b : ℕ) → getD promise q gap ≡ byte b → q < n)
     → Kept sum p v (cut-plan sum p n w (v .shown)) (take n log) promise
 unfolding cut-plan
 cut-kept sum fits p pos small v w log promise i firm even n less few = cond-both (eqb (n % p) 0) _ _ (λ x. Kept sum p v x (take n log) promise)
     (λ e. even-kept sum p pos v w log promise i firm even n less few (eqb-true _ _ e))
-    (λ e. odd-kept sum fits p pos small v w log promise i firm even n less few (nonzero (n % p) e) (page-at p (resize-shows p n w (v .shown)) (n / p)) refl (active-of (verdict-of sum (page-at p (resize-shows p n w (v .shown)) (n / p)))) refl)
+    (λ e. odd-kept sum fits p pos small v w log promise i firm even n less few (nonzero (n % p) e)
+    (page-at p (resize-shows p n w (v .shown)) (n / p)) refl (active-of
+    (verdict-of sum (page-at p (resize-shows p n w (v .shown)) (n / p)))) refl)

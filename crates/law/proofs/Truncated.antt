@@ -40,11 +40,13 @@ then-synced : (sum : List ℕ → ℕ) (p : ℕ) (v : BlobValue) (x : Plan) (f :
 then-synced sum p v x f log promise a b = record {
   ran = λ u d. let y = ran-split v u (x .ops) (f (x .to) .ops) d in b (y .0) (a .ran (y .0) (y .1 .0)) .ran u (y .1 .1);
   still = λ u d. let y = ran-split v u (x .ops) (f (x .to) .ops) d in b (y .0) (a .ran (y .0) (y .1 .0)) .still u (y .1 .1);
-  stopped = λ u k d. ⊎-elim (λ y. a .stopped u k y) (λ y. b (y .0) (a .ran (y .0) (y .1 .0)) .stopped u k (y .1 .1)) (stopped-split v u k (x .ops) (f (x .to) .ops) d);
+  stopped = λ u k d. ⊎-elim (λ y. a .stopped u k y) (λ y. b (y .0) (a .ran (y .0) (y .1 .0)) .stopped u k (y .1 .1))
+      (stopped-split v u k (x .ops) (f (x .to) .ops) d);
   neat = λ u d n. let y = ran-split v u (x .ops) (f (x .to) .ops) d in b (y .0) (a .ran (y .0) (y .1 .0)) .neat u (y .1 .1) (a .neat (y .0) (y .1 .0) n);
 }
 
-module _ (sum : List ℕ → ℕ) (fits : Fits-four sum) (p : ℕ) (pos : 0 < p) (small : p ≤ 65535) (v : BlobValue) (w : WriterState) (n : ℕ) (log promise : List Place) (i : Inv sum p v w log promise) where
+module _ (sum : List ℕ → ℕ) (fits : Fits-four sum) (p : ℕ) (pos : 0 < p) (small : p ≤ 65535) (v : BlobValue) (w : WriterState) (n : ℕ)
+    (log promise : List Place) (i : Inv sum p v w log promise) where
   first-sync : Synced sum p v (sync-plan sum p w) log promise
   first-sync = sync-kept sum fits p pos small v w log promise i
 
@@ -59,14 +61,25 @@ module _ (sum : List ℕ → ℕ) (fits : Fits-four sum) (p : ℕ) (pos : 0 < p)
     inv-mid : Inv sum p mid (sync-plan sum p w .to) log (take n promise)
     inv-mid =
         let j = after-first .0 in
-        record { sound = j .sound; guard = guard-mid; bytes = j .bytes; flushed = j .flushed; tracks = j .tracks; firm = j .firm; settled = j .settled; durable = j .durable }
+        record {
+          sound = j .sound;
+          guard = guard-mid;
+          bytes = j .bytes;
+          flushed = j .flushed;
+          tracks = j .tracks;
+          firm = j .firm;
+          settled = j
+              .settled;
+          durable = j .durable;
+        }
 
     below : n < size p w → Synced sum p mid (then-plan (cut-plan sum p n (sync-plan sum p w .to) (mid .shown)) (sync-plan sum p)) (take n log) (take n promise)
     below less =
         let to = sync-plan sum p w .to in
         let j = after-first .0 in
         let rest = after-first .1 in
-        let cut = cut-kept sum fits p pos small mid to log (take n promise) inv-mid (rest .0 .firm) (rest .1) n (omega (arith, i .tracks .long, j .tracks .long)) (λ q b e. cut-holds n promise q b e .0) in
+        let cut = cut-kept sum fits p pos small mid to log (take n promise) inv-mid (rest .0 .firm) (rest .1) n
+        (omega (arith, i .tracks .long, j .tracks .long)) (λ q b e. cut-holds n promise q b e .0) in
         then-synced sum p mid (cut-plan sum p n to (mid .shown)) (sync-plan sum p) (take n log) (take n promise) cut
         (λ m k. sync-kept sum fits p pos small m (cut-plan sum p n to (mid .shown) .to) (take n log) (take n promise) k)
 
@@ -84,15 +97,19 @@ module _ (sum : List ℕ → ℕ) (fits : Fits-four sum) (p : ℕ) (pos : 0 < p)
 
     behind-kept : Synced sum p mid (behind-sync sum p w n (mid .shown)) (take n log) (take n promise)
     unfolding behind-sync
-    behind-kept = cond-both (ltb n (size p w)) _ _ (λ x. Synced sum p mid x (take n log) (take n promise)) (λ e. below (ltb-true _ _ e)) (λ e. above (ltb-false _ _ e))
+    behind-kept = cond-both (ltb n (size p w)) _ _ (λ x. Synced sum p mid x (take n log) (take n promise)) (λ e. below (ltb-true _ _ e))
+        (λ e. above (ltb-false _ _ e))
 
-  pub truncate-ran : (u : BlobValue) (to : WriterState) → Truncation sum p w n v u (Ok to) → Inv sum p u to (take n log) (take n log) × (Settled u × Even (to .tip) (to .flushed))
+  pub truncate-ran : (u : BlobValue) (to : WriterState) → Truncation sum p w n v u (Ok to)
+      → Inv sum p u to (take n log) (take n log) × (Settled u × Even (to .tip) (to .flushed))
   truncate-ran u to d =
-      subst (λ x. Inv sum p u x (take n log) (take n log) × (Settled u × Even (x .tip) (x .flushed))) (sym (d .1 .2)) (behind-kept (d .0) (d .1 .0) .ran u (d .1 .1))
+      subst (λ x. Inv sum p u x (take n log) (take n log) × (Settled u × Even (x .tip) (x .flushed))) (sym (d .1 .2))
+      (behind-kept (d .0) (d .1 .0) .ran u (d .1 .1))
 
   pub truncate-neat : (u : BlobValue) (to : WriterState) → Truncation sum p w n v u (Ok to) → All-neat sum p (v .shown) → All-neat sum p (u .shown)
   truncate-neat u to d q = behind-kept (d .0) (d .1 .0) .neat u (d .1 .1) (first-sync .neat (d .0) (d .1 .0) q)
 
   pub truncate-stopped : (u : BlobValue) (k : StateRefusal) → Truncation sum p w n v u (Err k) → Sound u × Guard sum p u (take n promise)
-  truncate-stopped u k (inl d) = let x = first-sync .stopped u k d in (x .0, fewer sum p u promise (take n promise) (λ q b e. cut-holds n promise q b e .1) (x .1))
+  truncate-stopped u k (inl d) = let x = first-sync .stopped u k d in
+      (x .0, fewer sum p u promise (take n promise) (λ q b e. cut-holds n promise q b e .1) (x .1))
   truncate-stopped u k (inr d) = behind-kept (d .0) (d .1 .0) .stopped u k (d .1 .1)

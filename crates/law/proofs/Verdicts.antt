@@ -1,6 +1,6 @@
 -- The two facts about a verdict from which all else follows: a valid slot is covered, and what is covered is covered by a valid slot.
 use mathlib.Core.Path.{_≡_, refl, sym, ap, _∙_, subst}
-use mathlib.Core.Bool.{Bool, true, false, cond}
+use mathlib.Core.Bool.{true}
 use mathlib.Core.List.{List}
 use mathlib.Core.Logic.{_⊎_, inl, inr, ⊎-elim}
 use Prim.Native.Nat.{ℕ, _+_, _-_, _<_, _≤_}
@@ -13,10 +13,9 @@ use Rattle.std.proofs.shelf.Tests.{cond-true, cond-false, cond-both, and-parts,
 use Rattle.page.specs.declared.slot.Slot.{Slot}
 use Rattle.page.specs.declared.slot.Slot.the-variants.{First, Second}
 use Rattle.page.specs.declared.slot.ActiveChecksum.{ActiveChecksum}
-use Rattle.page.specs.declared.footer.Checksum.{Checksum}
-use Rattle.page.specs.Footer.{other-slot, two-at, four-at, footer-at, slot-in, longer-slot}
+use Rattle.page.specs.Footer.{other-slot, footer-at, slot-in, longer-slot}
 use Rattle.page.specs.Verdict.{Judged, rejected, partial, full, extent, valid, covered, first-valid, by-footer, verdict-of, cover}
-use Rattle.law.proofs.Slots.{slot-start, slot-of, Valid}
+use Rattle.law.proofs.Slots.{slot-of, Valid}
 
 module _ (sum : List ℕ → ℕ) (p : ℕ) (page : List ℕ) (long : length page ≡ p + 12) where
   data-long : length (take p page) ≡ p
@@ -56,7 +55,8 @@ module _ (sum : List ℕ → ℕ) (p : ℕ) (page : List ℕ) (long : length pag
       ∙ ap (first-valid sum (take p page) (slot-of p page w)) (in-footer (other-slot w)))
 
   -- what holds whichever slot is judged first holds of the verdict
-  by-longer : (P : Judged → Type 0) → (slot-of p page Second .len ≤ slot-of p page First .len → P (by First)) → (slot-of p page First .len < slot-of p page Second .len → P (by Second)) → P (verdict-of sum page)
+  by-longer : (P : Judged → Type 0) → (slot-of p page Second .len ≤ slot-of p page First .len → P (by First))
+      → (slot-of p page First .len < slot-of p page Second .len → P (by Second)) → P (verdict-of sum page)
   by-longer P a b =
       let one : footer-at page p .len1 ≡ slot-of p page First .len = ap (λ (x : ActiveChecksum). x .len) (in-footer First) in
       let two : footer-at page p .len2 ≡ slot-of p page Second .len = ap (λ (x : ActiveChecksum). x .len) (in-footer Second) in
@@ -120,7 +120,13 @@ module _ (sum : List ℕ → ℕ) (p : ℕ) (page : List ℕ) (long : length pag
       let good : Valid sum p page (slot-of p page w .slot) = subst (Valid sum p page) (sym (named w)) h in
       cond-both (eqb (slot-of p page w .len) (length (take p page))) _ _ Told
       (λ e. (here, good, eqb-true _ _ e ∙ data-long))
-      (λ e. (here, good, ⊎-elim (λ y. y) (λ (y : p ≤ slot-of p page w .len). absurd (eqb-false _ _ e (sym (data-long ∙ omega arith)))) (cases-lt (slot-of p page w .len) p), take-take _ _ page l))
+      (λ e. (
+        here,
+        good,
+        ⊎-elim (λ y. y) (λ (y : p ≤ slot-of p page w .len). absurd (eqb-false _ _ e (sym (data-long ∙ omega arith))))
+            (cases-lt (slot-of p page w .len) p),
+        take-take _ _ page l,
+      ))
 
   told-first : (w v : Slot) → Told (first-valid sum (take p page) (slot-of p page w) (slot-of p page v))
   unfolding Told

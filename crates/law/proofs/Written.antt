@@ -59,7 +59,8 @@ module _ (sum : List ℕ → ℕ) (p : ℕ) (tip : List ℕ) (old : Option Activ
   -- the bytes after such a write
   module _ (s : List ℕ) (c n : ℕ) (from : start p c ≤ length s) where
     pub after-long : length (overwritten s (start p c) (physical-pages sum p tip old n)) ≡ max (length s) (start p (c + n))
-    after-long = over-length s (start p c) (physical-pages sum p tip old n) from ∙ ap (λ m. max (length s) m) (ap (λ m. start p c + m) (all-long n) ∙ sym (start-add p c n))
+    after-long = over-length s (start p c) (physical-pages sum p tip old n) from
+        ∙ ap (λ m. max (length s) m) (ap (λ m. start p c + m) (all-long n) ∙ sym (start-add p c n))
 
     pub page-before : (i : ℕ) → i < c → page-at p (overwritten s (start p c) (physical-pages sum p tip old n)) i ≡ page-at p s i
     page-before i l =
@@ -68,7 +69,8 @@ module _ (sum : List ℕ → ℕ) (p : ℕ) (tip : List ℕ) (old : Option Activ
         let y = page-long p s i (omega arith) in
         ext-getD 0 _ _ (x ∙ sym y)
         (λ j q. let r : j < p + 12 = omega arith in
-        page-byte p (overwritten s (start p c) (physical-pages sum p tip old n)) i j r ∙ over-out s (start p c) (physical-pages sum p tip old n) from (start p i + j) (inl (omega arith)) ∙ sym (page-byte p s i j r))
+        page-byte p (overwritten s (start p c) (physical-pages sum p tip old n)) i j r
+        ∙ over-out s (start p c) (physical-pages sum p tip old n) from (start p i + j) (inl (omega arith)) ∙ sym (page-byte p s i j r))
 
     pub page-new : (k : ℕ) → k < n → page-at p (overwritten s (start p c) (physical-pages sum p tip old n)) (c + k) ≡ page-of sum p tip old k
     page-new k l =

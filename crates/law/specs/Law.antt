@@ -11,10 +11,10 @@ use Rattle.blob.specs.Calls.{Restarted}
 use Rattle.page.specs.Layout.{start, page-at}
 use Rattle.page.specs.Verdict.{rejected, verdict-of, cover}
 use Rattle.paged.specs.Rows.{Op, reads, writes, resizes, settles, rejects}
-use Rattle.plan.specs.State.{size, Plan}
+use Rattle.plan.specs.State.{size}
 use Rattle.plan.specs.Open.{whole-pages, open-plan}
 use Rattle.law.specs.Log.{Place, gap, byte, opened-log, Holds}
-use Rattle.law.specs.Events.{Call, opening, append, sync, truncate, hand-over, page-read, restart, Outcome, accepted, refused-input, refused-state, Event, event, Account, account}
+use Rattle.law.specs.Events.{Call, opening, append, sync, truncate, hand-over, page-read, restart, Outcome, accepted, refused-input, refused-state, Event, event, account}
 use Rattle.law.specs.Lines.{LineWriter, LineState, at, Line}
 
 -- the line begins with a settled blob and no writer, and an opening may come
@@ -96,7 +96,8 @@ pub record Tells-altered (sum : List ℕ → ℕ) (p : ℕ) (s : List ℕ) (i j 
 pub record Law (sum : List ℕ → ℕ) (p : ℕ) : Type 0 where
   -- each accepted opening shows a log that holds the promise of the events before it
   pub openings-hold : (v : BlobValue) → Head v
-      → (before after : List Event) (wish told : ℕ) (s : List ℕ) (end : LineState) → Line sum p (begin v) (before ++ (event (opening wish told) accepted s ∷ after)) end
+      → (before after : List Event) (wish told : ℕ) (s : List ℕ) (end : LineState)
+      → Line sum p (begin v) (before ++ (event (opening wish told) accepted s ∷ after)) end
       → Holds (opened-log sum p s) (account sum p before .promise)
   -- wherever there is a writer, its size is the log's length
   pub size-is-log : (v : BlobValue) → Head v → (es : List Event) (end : LineState) → Line sum p (begin v) es end
@@ -105,13 +106,15 @@ pub record Law (sum : List ℕ → ℕ) (p : ℕ) : Type 0 where
   pub settled-after : (v : BlobValue) → Head v
       → (before : List Event) (call : Call) → Promises call → (s : List ℕ) (end : LineState) → Line sum p (begin v) (before ++ (event call accepted s ∷ [])) end
       → Settled (end .blob) × ((u : BlobValue) → Restarted (end .blob) u → u .shown ≡ s)
-  -- from an empty blob, in a calm line, each accepted sync or truncation leaves bytes that are exactly the log
+  -- from an empty blob, up to where the line is calm, each accepted sync or truncation leaves bytes that are exactly the log
   pub shows-log : (v : BlobValue) → Head v → v .shown ≡ []
-      → (before : List Event) → Calm before → (call : Call) → Promises call → (s : List ℕ) (end : LineState) → Line sum p (begin v) (before ++ (event call accepted s ∷ [])) end
+      → (before after : List Event) → Calm before → (call : Call) → Promises call → (s : List ℕ) (end : LineState)
+      → Line sum p (begin v) (before ++ (event call accepted s ∷ after)) end
       → Shows-log sum p s (account sum p (before ++ (event call accepted s ∷ [])) .log)
   -- and a covered byte of those that is altered to any other is told
   pub tells-altered : Tells-one sum → (v : BlobValue) → Head v → v .shown ≡ []
-      → (before : List Event) → Calm before → (call : Call) → Promises call → (s : List ℕ) (end : LineState) → Line sum p (begin v) (before ++ (event call accepted s ∷ [])) end
+      → (before after : List Event) → Calm before → (call : Call) → Promises call → (s : List ℕ) (end : LineState)
+      → Line sum p (begin v) (before ++ (event call accepted s ∷ after)) end
       → (i j b : ℕ) → i < whole-pages p s → j < cover sum (page-at p s i) → b < 256 → (b ≡ getD s (start p i + j) 0 → ⊥)
       → Tells-altered sum p s i j b
 

@@ -19,10 +19,17 @@ pub fn law_holds(page_size: u16) -> bool
     is_page_size(page_size)
 }
 
+// The page with the bytes 1 2, cut from 1 2 3: the old slot is zeros.
+fn page_of_two() -> [u8; 16]
+    ensures { λ r. ⌜ r ≡ two ⌝ }
+{
+    [1, 2, 3, 0, 0, 0, 0, 0, 0, 0, 0, 2, 0, 0, 0, 8]
+}
+
 // The page that the worked line leaves. There is such a line.
 pub fn worked_page() -> [u8; 16]
     ensures line { λ _. ⌜ Example ⌝ }
     ensures page { λ r. ⌜ r ≡ two ⌝ }
 {
-    [1, 2, 3, 0, 0, 0, 0, 0, 0, 0, 0, 2, 0, 0, 0, 8]
+    page_of_two()
 }
