@@ -82,7 +82,7 @@ module _ (sum : List ℕ → ℕ) (p : ℕ) (promise : List Place) (v : BlobValu
 
   pub two_stopped : (u : BlobValue) (k : StateRefusal) (ops : List Op) → Carried v (writes o bs ∷ settles ∷ ops) u (Err k)
       → (Sound u × Guard sum p u promise) ⊎ ((x : BlobValue) × (Stage sum p promise (overwritten v.shown o bs) x × Carried x ops u (Err k)))
-  two_stopped u k ops (inl d) = inl (d.0, write_stop (λ x. Guard sum p x promise) v u (λ x. x.now) o bs k (g u) d.1)
+  two_stopped u k ops (inl d) = inl (d.0, write_stop (λ x. Guard sum p x promise) v u now o bs k (g u) d.1)
   two_stopped u k ops (inr d) = ⊎_elim
       (λ y. let z = fault_stop settle-call 0 (λ fault. Settling d.0 u (Err fault)) k y.1 in
       inl (y.0, settle_keeps sum p d.0 u promise (Err z.0) y.0 z.1 (g d.0 (Ok tt) d.1.1)))

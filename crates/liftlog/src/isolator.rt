@@ -40,7 +40,7 @@ fn steady_blob(heap: Global, bytes: &[u8]) -> Result<SettleLater, LogError>
 
 // Opens the log of a blob, and reads its lifts back from the pages.
 fn reopen<B: Blob>(heap: Global, blob: &mut B) -> Result<Vec<Lift>, LogError>
-    ensures { IfOk result (λ ls. Shows (meaning blob.old) ls.items (meaning blob.new)) }
+    ensures { IfOk result (λ ls. Shows (B.meaning blob.old) ls.items (B.meaning blob.new)) }
 {
     let _ = Session::open(blob)?;
     Ok(store::read_back(heap, blob)?.lifts)

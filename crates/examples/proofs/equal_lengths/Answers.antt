@@ -25,5 +25,5 @@ returns c = record {
     too_long = refl;
     zeros_opened = (refl, refl);
   };
-  answer = c.active.ensures ∙ ap active_of c.validate-page.ensures;
+  answer = c.active.ensures ∙ ap active_of c.validate_page.ensures;
 }

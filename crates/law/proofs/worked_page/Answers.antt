@@ -2,4 +2,4 @@ use Rattle.law.proofs.Example.{example}
 use Rattle.law.proofs.worked_page.Goals as goal
 
 pub returns : goal.returns
-returns c = record { line = example; page = c.page-of-two.ensures }
+returns c = record { line = example; page = c.page_of_two.ensures }

@@ -6,8 +6,8 @@ pub loop-cut-init : goal.loop-cut-init
 loop-cut-init c = none
 
 pub returns-in-None : goal.returns-in-None
-returns-in-None c = cut_end _ _ c.loop-cut.cut _ _ c.loop-cut.invariant c.in-ok-outcome.ensures c.in-None.is
+returns-in-None c = cut_end _ _ c.loop-cut.cut _ _ c.loop-cut.invariant c.in_ok-outcome.ensures c.in-None.is
 
 pub loop-cut-preserved : goal.loop-cut-preserved
 loop-cut-preserved c =
-    cut_more _ _ c.loop-cut.cut _ _ _ c.in-Some.outcome c.loop-cut.invariant c.in-ok-outcome.ensures c.in-Some.is c.with-count.ensures
+    cut_more _ _ c.loop-cut.cut _ _ _ c.in-Some.outcome c.loop-cut.invariant c.in_ok-outcome.ensures c.in-Some.is c.with_count.ensures

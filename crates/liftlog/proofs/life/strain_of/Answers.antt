@@ -2,8 +2,8 @@ use Rattle.std.proofs.Common.{◌*◌, ◌^◌, ◌<◌, arith, rules}
 use Rattle.std.proofs.lemmas.Nat.{mul-lt}
 use Rattle.liftlog.proofs.life.strain_of.Goals as goal
 
-pub overflow-mul-result : goal.overflow-mul-result
-overflow-mul-result c =
+pub overflow_mul-result : goal.overflow_mul-result
+overflow_mul-result c =
     let a : c.args.lift.load < 2 ^ 32 = search rules in
     let b : c.args.lift.seconds < 2 ^ 32 = search rules in
     let square : c.args.lift.load * c.args.lift.load < 2 ^ 64 = mul-lt _ _ (2 ^ 32) (2 ^ 32) a a in

@@ -3,18 +3,18 @@ use Rattle.std.proofs.lemmas.List.{with_items_is}
 use Rattle.kinds.proofs.Fronts.{front_copied}
 use Rattle.kinds.proofs.areas.Area.copy_from.Goals as goal
 
-pub invariant-of-self : goal.invariant-of-self
-invariant-of-self c =
+pub invariant_of-self : goal.invariant_of-self
+invariant_of-self c =
     let l : length c.put.new.area ≡ length (vec_items c.args.self.now.area) = search rules in
     rw (with_items_is c.args.self.now.area c.put.new.area (search rules))
-    (search rules, (omega arith, (c.put.ensures.bytes, tt)))
+    (record { within = search rules; small = omega arith; bytes = c.put.ensures.bytes })
 
 pub returns : goal.returns
 returns c =
     let e = with_items_is c.args.self.now.area c.put.new.area (search rules) in
     record {
       held =
-          rw (e, c.put.ensures.after, c.deref-mut.ensures.value, c.deref.ensures.value)
+          rw (e, c.put.ensures.after, c.deref_mut.ensures.value, c.deref.ensures.value)
           (front_copied _ _ _ c.requires);
       room = rw e (search rules);
     }
