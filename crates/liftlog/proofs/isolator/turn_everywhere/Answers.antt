@@ -10,4 +10,4 @@ returns-in-None c = cut_end _ _ c.loop-cut.cut _ _ c.loop-cut.invariant c.in_ok-
 
 pub loop-cut-preserved : goal.loop-cut-preserved
 loop-cut-preserved c =
-    cut_more _ _ c.loop-cut.cut _ _ _ c.in-Some.outcome c.loop-cut.invariant c.in_ok-outcome.ensures c.in-Some.is c.with_count.ensures
+    cut_more _ _ c.loop-cut.cut _ _ _ c.in-Some.outcome c.loop-cut.invariant c.in_ok-outcome.ensures c.in-Some.is c.with-count.ensures
