@@ -1,7 +1,4 @@
 // What can go wrong in the lift log, each as a sentence.
-ghost use Rattle.std.specs.Prelude.{◌≡◌};
-ghost use Rattle.liftlog.specs.Errors.{power_cut};
-
 use kinds::MakeError;
 use paged::{BlobCall, InputRefusal, Refusal, StateRefusal};
 use std::alloc::{AllocError, AllocFailed};
@@ -17,22 +14,6 @@ pub enum LogError {
     Refused(Refusal<()>),
     // What stands in the pages ends within a record.
     CutRecord,
-    // The shift did not end before the last turn of the isolator.
-    NoEnd,
-    // A power cut lost or doubled a lift.
-    NotKept,
-}
-
-impl LogError {
-    // Whether a call of the storage failed, as it does where the power is gone.
-    pub(crate) fn is_power_cut(self) -> bool
-        ensures { result ≡ power_cut self }
-    {
-        match self {
-            LogError::Refused(Refusal::State(StateRefusal::CallFailed(_, _))) => true,
-            _ => false,
-        }
-    }
 }
 
 impl fmt::Display for LogError {
@@ -49,10 +30,6 @@ impl fmt::Display for LogError {
                 )
             }
             LogError::CutRecord => f.write_str("The last lift in the log is cut short."),
-            LogError::NoEnd => f.write_str(
-                "The shift writes more bytes than the isolator was turned for.",
-            ),
-            LogError::NotKept => f.write_str("A power cut lost or doubled a lift."),
         }
     }
 }

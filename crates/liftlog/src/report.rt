@@ -1,31 +1,18 @@
 // What the maintenance planner reads of a list of lifts.
-ghost use Rattle.std.specs.Prelude.{◌≡◌};
-ghost use Rattle.liftlog.specs.Summaries.{capped, nothing, counted, summary_of};
+ghost use Rattle.std.specs.Prelude.{◌≡◌, ◌+◌, ◌*◌, ◌<◌};
+ghost use Rattle.liftlog.specs.Summaries.{nothing, counted, summary_of};
 
-use crate::life;
-use crate::life::{RATED, Use};
 use crate::lift::Lift;
-use crate::time::Time;
 use std::fmt;
 
-// A sum that stops at the largest number of 64 bits.
-fn add_strain(sum: u64, more: u128) -> u64
-    ensures { result ≡ capped sum more }
-{
-    let most = u64::MAX as u128;
-    (sum as u128 + more.min(most)).min(most) as u64
-}
-
 // The sums stop at the largest number of 64 bits.
-#[derive(Clone, Copy)]
+#[derive(Clone, Copy, PartialEq, Eq, Debug)]
 pub struct Summary {
     pub lifts: u64,
     // The hoisting time of all lifts.
     pub seconds: u64,
     // The heaviest load, in kilograms; 0 where there is no lift.
     pub heaviest: u32,
-    // The strain of all lifts.
-    pub strain: u64,
 }
 
 impl Summary {
@@ -34,7 +21,6 @@ impl Summary {
         lifts: 0,
         seconds: 0,
         heaviest: 0,
-        strain: 0,
     };
 
     // The summary of a list of lifts.
@@ -56,7 +42,6 @@ impl Summary {
             lifts: self.lifts.saturating_add(1),
             seconds: self.seconds.saturating_add(lift.seconds as u64),
             heaviest: self.heaviest.max(lift.load),
-            strain: add_strain(self.strain, life::strain_of(lift)),
         }
     }
 }
@@ -67,13 +52,42 @@ impl fmt::Display for Summary {
             lifts,
             seconds,
             heaviest,
-            strain,
         } = *self;
-        let hoist = Use::of(strain);
-        let time = Time::of(seconds);
+        let time = HoistingTime::of(seconds);
         writeln!(f, "Lifts recorded: {lifts}")?;
         writeln!(f, "Hoisting time: {time}")?;
-        writeln!(f, "Heaviest load: {heaviest} kg of {RATED} kg")?;
-        write!(f, "{hoist}")
+        write!(f, "Heaviest load: {heaviest} kg")
+    }
+}
+
+// Seconds as a planner reads them.
+#[derive(Clone, Copy, PartialEq, Eq, Debug)]
+struct HoistingTime {
+    hours: u64,
+    minutes: u64,
+    seconds: u64,
+}
+
+impl HoistingTime {
+    fn of(all: u64) -> HoistingTime
+        ensures whole { result.hours * 3600 + result.minutes * 60 + result.seconds ≡ all }
+        ensures below { (result.minutes < 60) × (result.seconds < 60) }
+    {
+        HoistingTime {
+            hours: all / 3600,
+            minutes: all % 3600 / 60,
+            seconds: all % 60,
+        }
+    }
+}
+
+impl fmt::Display for HoistingTime {
+    fn fmt<W: fmt::Write>(&self, f: &mut fmt::Formatter<W>) -> fmt::Result {
+        let HoistingTime {
+            hours,
+            minutes,
+            seconds,
+        } = *self;
+        write!(f, "{hours} h {minutes} min {seconds} s")
     }
 }

@@ -1,0 +1,5 @@
+mod Lifts
+mod Pages
+mod Trials
+mod Counts
+mod Turning
