@@ -1,5 +1,5 @@
 -- What each call of a blob may do: relations between the meaning v before the call and w after it.
-use Rattle.std.specs.Prelude.{◌≡◌, ℕ, ◌+◌, ◌-◌, ◌<◌, ◌≤◌, min, max, Bool, true, false, ◌⊎◌, List, ◌++◌, length, take, drop, replicate, Ok, Err, Result, slice_index}
+use Rattle.std.specs.Prelude.{◌≡◌, ℕ, ◌+◌, ◌-◌, ◌<◌, ◌≤◌, min, max, true, false, ◌⊎◌, List, ◌++◌, length, take, drop, replicate, Ok, Err, Result, slice_index}
 use Rattle.blob.specs.declared.Fault.{Fault}
 use Rattle.blob.specs.declared.Fault.TheVariants.{Refused, Failed}
 use Rattle.blob.specs.Value.{BlobValue, Settled, MayStand}

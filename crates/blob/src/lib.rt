@@ -1,4 +1,6 @@
 // A blob: bytes that can be read, written, resized and settled, on a part whose power may fail in any call.
+#![tactic(auto)]
+
 ghost use Rattle.std.specs.Prelude.{◌≡◌, length};
 ghost use Rattle.blob.specs.Value.{BlobValue, Sound};
 ghost use Rattle.blob.specs.Calls.{Read, Wrote, Resized, Settling, Restarted};

@@ -1,4 +1,6 @@
 // Checks: a number of four bytes for a string, that tells a single altered byte.
+#![tactic(auto)]
+
 ghost use Rattle.std.specs.Prelude.{◌≡◌, ℕ, List};
 ghost use Rattle.checks.specs.Check.{FitsFour, TellsOne};
 

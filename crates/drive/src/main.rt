@@ -1,4 +1,6 @@
 // Carries out a driver script: reads commands from standard input, and prints what each call comes to. docs/DRIVER.md has the commands.
+#![tactic(auto)]
+
 mod answer;
 mod command;
 mod desk;

@@ -1,8 +1,8 @@
 -- Worked examples, with the older units' sum, pages of 4 data bytes and a wish of 8.
-use Rattle.std.specs.Prelude.{◌≡◌, ℕ, true, false, List, [], ◌∷◌, ◌++◌, length, replicate, Some, None}
+use Rattle.std.specs.Prelude.{◌≡◌, ℕ, true, false, List, [], ◌∷◌, ◌++◌, length, replicate}
 use Rattle.checks.specs.Older.{older_sum}
 use Rattle.blob.specs.Calls.{overwritten}
-use Rattle.page.specs.declared.slot.Slot.TheVariants.{First, Second}
+use Rattle.page.specs.declared.slot.Slot.TheVariants.{Second}
 use Rattle.page.specs.declared.slot.ActiveChecksum.{ActiveChecksum}
 use Rattle.page.specs.declared.footer.Checksum.{Checksum}
 use Rattle.page.specs.Footer.{footer_bytes}

@@ -1,4 +1,6 @@
 // Worked examples: theorems about the definitions, and one of them run.
+#![tactic(auto)]
+
 ghost use Rattle.std.specs.Prelude.{◌≡◌, Some};
 ghost use Rattle.examples.specs.Worked.{WorkedExamples, second_of_two};
 

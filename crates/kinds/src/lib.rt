@@ -1,4 +1,6 @@
 // Two kinds of blob in memory: one that is always settled, and one whose bytes wait for a settle and whose power can be cut.
+#![tactic(auto)]
+
 mod areas;
 mod settle_later;
 mod write_through;

@@ -10,7 +10,7 @@ use Rattle.plan.specs.State.{WriterState}
 use Rattle.plan.specs.Sync.{sync_plan}
 use Rattle.law.specs.Events.{Account, Call, Event, Outcome, account_after, account_by, account_from}
 use Rattle.law.specs.Law.{Calm, CalmCall, ShowsLog}
-use Rattle.law.specs.Lines.{Line, LineState, Step, append_refused, append_stopped, appends, at, hands_over, none, opening_refused, opening_stopped, opens, page_refused, page_stopped, reads_page, restarts, sync_refused, sync_stopped, syncs, then, truncate_refused, truncate_stopped, truncates}
+use Rattle.law.specs.Lines.{Line, LineState, Step, append_refused, append_stopped, appends, hands_over, none, opening_refused, opening_stopped, opens, page_refused, page_stopped, reads_page, restarts, sync_refused, sync_stopped, syncs, then, truncate_refused, truncate_stopped, truncates}
 use Rattle.law.specs.Log.{Place, byte, gap}
 use Rattle.law.proofs.Lines.{Fine, fetched_same, step}
 use Rattle.law.proofs.Open.{open_kept}

@@ -20,8 +20,7 @@ use Rattle.law.proofs.Lines.{WithWriter, Fine, along, to_end}
 use Rattle.law.proofs.Opening.{covers_few, opened_stands, page_whole}
 use Rattle.law.proofs.Places.{page_byte, page_long}
 use Rattle.law.proofs.Put.{bytes_of}
-use Rattle.law.proofs.Shows.{exactly, shows_log}
-use Rattle.law.proofs.Verdicts.{longest}
+use Rattle.law.proofs.Shows.{exactly}
 use Rattle.law.proofs.Writer.{AllNeat}
 use Rattle.law.proofs.Written.{start_zero}
 

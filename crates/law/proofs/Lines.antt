@@ -22,7 +22,6 @@ use Rattle.law.proofs.Standing.{guarded, standing}
 use Rattle.law.proofs.Steps.{append_kept}
 use Rattle.law.proofs.Sync.{sync_kept}
 use Rattle.law.proofs.Truncated.{truncate_ran}
-use Rattle.law.proofs.Verdicts.{longest}
 use Rattle.law.proofs.Writer.{Flushed, Inv, Tracks}
 use Rattle.law.proofs.Truncated.{truncate_stopped as truncate-over}
 

@@ -1,3 +1,5 @@
+#![tactic(auto)]
+
 ghost use Rattle.std.specs.Prelude.{◌≡◌, nat_lt};
 ghost use Rattle.law.specs.Law.{TheLaw, LawAt};
 ghost use Rattle.law.specs.Example.{Example, two};

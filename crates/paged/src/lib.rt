@@ -1,4 +1,6 @@
 // What the calls of a writer share: the two lists of refusals, the mark, and the page read.
+#![tactic(auto)]
+
 mod page_read;
 mod refusal;
 mod sync_state;

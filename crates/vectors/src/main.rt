@@ -1,4 +1,6 @@
 // Runs the test vectors of RFC 3720 for CRC-32C, and the known numbers of both checks, and holds each computed number to the printed one.
+#![tactic(auto)]
+
 use anyhow::anyhow;
 use checks::{Check, Crc32c, OlderSum, known_numbers};
 
