@@ -79,7 +79,7 @@ bits_low (suc n) s b =
     ∙ ap (after_bits n (after_bit s b)) half
     ∙ bits_low n (after_bit s b) (b / 2)
 
--- the step by a table whose entry at i is after-bits 8 0 i
+-- the step by a table whose entry at i is after_bits 8 0 i
 pub byte_by_table : (s b : ℕ) → bit_xor (after_bits 8 0 (bit_xor s b % 2 ^ 8)) (s / 2 ^ 8) ≡ after_bits 8 s b
 byte_by_table s b =
     ap (λ n. bit_xor n (s / 2 ^ 8)) (bits_low 8 0 (bit_xor s b))

@@ -2,7 +2,7 @@
 use Rattle.std.specs.Prelude.{ℕ, ◌+◌, ◌-◌, ◌^◌, min, max, List, fold}
 use Rattle.isolator.specs.declared.lift.Lift.{Lift}
 use Rattle.isolator.specs.declared.report.Summary.{Summary}
-use Rattle.isolator.specs.Life.{strain as strain-of-lift}
+use Rattle.isolator.specs.Life.{strain as strain_of_lift}
 
 -- a sum that stops at the largest number of 64 bits
 abbrev pub capped : ℕ → ℕ → ℕ
@@ -18,7 +18,7 @@ counted s l =
       lifts = capped s.lifts 1;
       seconds = capped s.seconds l.seconds;
       heaviest = max s.heaviest l.load;
-      strain = capped s.strain (strain-of-lift l);
+      strain = capped s.strain (strain_of_lift l);
     }
 
 abbrev pub summary_of : List Lift → Summary

@@ -11,7 +11,7 @@ picked_most p l m = ⊎_elim (λ (e : bit p 0 ≡ true). rw e (omega arith)) (λ
 past_working : (p : List ℕ) (l m k : ℕ) → k < m → l ≤ k → from_settled p l m k ≡ true
 past_working p l m k h i = rw (lt-ltb k m h, le-leb l k i)
 
-module _ (p a b c : List ℕ) (l m : ℕ) (l-in : l ≤ length a) (m-in : m ≤ length b) (n-in : picked_length p l m ≤ length c) where
+module _ (p a b c : List ℕ) (l m : ℕ) (l_in : l ≤ length a) (m_in : m ≤ length b) (n_in : picked_length p l m ≤ length c) where
   same_byte : (k : ℕ) → k < picked_length p l m
       → cond (from_settled p l m k) (get_or (take m b) k 0) (get_or a k 0) ≡ cond (from_settled p l m k) (get_or (take m b) k 0) (get_or (take l a) k 0)
   same_byte k h =
@@ -22,8 +22,8 @@ module _ (p a b c : List ℕ) (l m : ℕ) (l-in : l ≤ length a) (m-in : m ≤ 
   pub picked : ((k : ℕ) → k < picked_length p l m → get_or c k 0 ≡ cond (from_settled p l m k) (get_or (take m b) k 0) (get_or a k 0))
       → Picked p (take l a) (take m b) (take (picked_length p l m) c)
   picked each = record {
-    long = rw (length-take-le l a l-in, length-take-le m b m-in, length-take-le (picked_length p l m) c n-in);
+    long = rw (length-take-le l a l_in, length-take-le m b m_in, length-take-le (picked_length p l m) c n_in);
     bytes = λ k h.
-        let i : k < picked_length p l m = omega (arith, length-take-le (picked_length p l m) c n-in) in
-        rw (length-take-le l a l-in, length-take-le m b m-in, get_or-take (picked_length p l m) c) (each k i ∙ same_byte k i);
+        let i : k < picked_length p l m = omega (arith, length-take-le (picked_length p l m) c n_in) in
+        rw (length-take-le l a l_in, length-take-le m b m_in, get_or-take (picked_length p l m) c) (each k i ∙ same_byte k i);
   }

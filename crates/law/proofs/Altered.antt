@@ -17,8 +17,8 @@ bytes_take n x l h = record {
       (λ (d : n ≤ k). subst (λ m. m < 256) (sym (get_or_past (take n x) k 0 (simp length-take (omega arith)))) (omega arith)) (cases_lt k n);
 }
 
-module _ (sum : List ℕ → ℕ) (law : TellsOne sum) (p : ℕ) (small : p ≤ 65535) (x y : List ℕ) (in-x : length x ≡ p + 12) (in-y : length y ≡ p + 12)
-    (bytes-x : (k : ℕ) → get_or x k 0 < 256) (bytes-y : (k : ℕ) → get_or y k 0 < 256) (j : ℕ) (inside : j < p)
+module _ (sum : List ℕ → ℕ) (law : TellsOne sum) (p : ℕ) (small : p ≤ 65535) (x y : List ℕ) (in_x : length x ≡ p + 12) (in_y : length y ≡ p + 12)
+    (bytes_x : (k : ℕ) → get_or x k 0 < 256) (bytes_y : (k : ℕ) → get_or y k 0 < 256) (j : ℕ) (inside : j < p)
     (differ : get_or y j 0 ≡ get_or x j 0 → ⊥) (same : (k : ℕ) → (k ≡ j → ⊥) → get_or y k 0 ≡ get_or x k 0) where
   apart : (n : ℕ) → j < n → n ≤ p → OneDiffers (take n y) (take n x)
   apart n h l = record {
@@ -44,10 +44,10 @@ module _ (sum : List ℕ → ℕ) (law : TellsOne sum) (p : ℕ) (small : p ≤ 
       (λ h. ⊎_elim
       (λ e. absurd (omega arith))
       (λ u. absurd (law (take (slot_of p y w).len y) (take (slot_of p y w).len x)
-      (bytes_take (slot_of p y w).len y (omega (arith, v.high)) bytes-y) (bytes_take (slot_of p y w).len x (omega (arith, v.high)) bytes-x)
+      (bytes_take (slot_of p y w).len y (omega (arith, v.high)) bytes_y) (bytes_take (slot_of p y w).len x (omega (arith, v.high)) bytes_x)
       (apart (slot_of p y w).len h v.high)
       (v.check ∙ c ∙ sym u.check ∙ ap (λ n. sum (take n x)) (sym l))))
       (neat w))
       (λ h. omega (arith, z.1.1))
       (cases_lt j (slot_of p y w).len))
-      (by_some sum p y in-y)
+      (by_some sum p y in_y)

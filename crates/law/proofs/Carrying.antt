@@ -10,7 +10,7 @@ use Rattle.paged.specs.declared.refusal.StateRefusal.TheVariants.{CallFailed, Ce
 use Rattle.law.specs.Log.{Place}
 use Rattle.law.proofs.Guard.{Guard}
 use Rattle.law.proofs.Kept.{settle_keeps}
-use Rattle.paged.specs.declared.refusal.BlobCall.TheVariants.{Settle as settle-call}
+use Rattle.paged.specs.declared.refusal.BlobCall.TheVariants.{Settle as settle_call}
 
 pub ran_split : (v u : BlobValue) (a b : List Op) → Carried v (a ++ b) u (Ok tt) → (m : BlobValue) × (Carried v a m (Ok tt) × Carried m b u (Ok tt))
 ran_split v u [] b d = (v, (refl, d))
@@ -84,7 +84,7 @@ module _ (sum : List ℕ → ℕ) (p : ℕ) (promise : List Place) (v : BlobValu
       → (Sound u × Guard sum p u promise) ⊎ ((x : BlobValue) × (Stage sum p promise (overwritten v.shown o bs) x × Carried x ops u (Err k)))
   two_stopped u k ops (inl d) = inl (d.0, write_stop (λ x. Guard sum p x promise) v u now o bs k (g u) d.1)
   two_stopped u k ops (inr d) = ⊎_elim
-      (λ y. let z = fault_stop settle-call 0 (λ fault. Settling d.0 u (Err fault)) k y.1 in
+      (λ y. let z = fault_stop settle_call 0 (λ fault. Settling d.0 u (Err fault)) k y.1 in
       inl (y.0, settle_keeps sum p d.0 u promise (Err z.0) y.0 z.1 (g d.0 (Ok tt) d.1.1)))
       (λ e. inr (e.0, (stored d.0 e.0 d.1.1 e.1.0 e.1.1, e.1.2)))
       d.1.2

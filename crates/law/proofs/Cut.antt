@@ -29,7 +29,7 @@ use Rattle.law.proofs.Standing.{stood_here}
 use Rattle.law.proofs.Steps.{Kept}
 use Rattle.law.proofs.Sync.{tip_short}
 use Rattle.law.proofs.Writer.{AllNeat, Even, Flushed, Inv, Tracks}
-use Rattle.paged.specs.declared.refusal.BlobCall.TheVariants.{Resize as resize-call}
+use Rattle.paged.specs.declared.refusal.BlobCall.TheVariants.{Resize as resize_call}
 
 module _ (sum : List ℕ → ℕ) (p : ℕ) (pos : 0 < p) (v : BlobValue) (w : WriterState) (log promise : List Place) (i : Inv sum p v w log promise)
     (firm : Firm v) (even : Even w.tip w.flushed) (n : ℕ) (less : n < size p w) (few : (q b : ℕ) → get_or promise q gap ≡ byte b → q < n) where
@@ -114,7 +114,7 @@ module _ (sum : List ℕ → ℕ) (p : ℕ) (pos : 0 < p) (v : BlobValue) (w : W
   cut_stopped u k = cond_both (count_stays p n w) [] (resizes (start p (pages_for p n)) ∷ []) (λ ops. Carried v ops u (Err k) → Sound u × Guard sum p u promise)
       (λ _ d. absurd d)
       (λ _ d. ⊎_elim
-      (λ z. let x = fault_stop resize-call (start p (pages_for p n)) (λ fault. Resized v (start p (pages_for p n)) u (Err fault)) k z.1 in
+      (λ z. let x = fault_stop resize_call (start p (pages_for p n)) (λ fault. Resized v (start p (pages_for p n)) u (Err fault)) k z.1 in
       (z.0, resized_guard u (Err x.0) x.1))
       (λ z. absurd z.1.2) d)
 
@@ -226,7 +226,7 @@ module _ (p : ℕ) (s : List ℕ) (c : ℕ) (a : Slot) (bs : List ℕ) (few : le
   slot_rest k h = over_out s (start p c + slot_start p a) bs from (start p c + (slot_start p a + k)) (inr (omega arith))
 
 -- a page of t, where t agrees with s up to the end of the page's data
-module _ (p : ℕ) (s t : List ℕ) (c : ℕ) (in-s : start p c + (p + 12) ≤ length s) (in-t : start p c + (p + 12) ≤ length t)
+module _ (p : ℕ) (s t : List ℕ) (c : ℕ) (in_s : start p c + (p + 12) ≤ length s) (in_t : start p c + (p + 12) ≤ length t)
     (same : (k : ℕ) → k < start p c + p → get_or t k 0 ≡ get_or s k 0) where
   pub data_stays : (k : ℕ) → k < p → get_or (page_at p t c) k 0 ≡ get_or (page_at p s c) k 0
   data_stays k h = page_byte p t c k (omega arith) ∙ same (start p c + k) (omega arith) ∙ sym (page_byte p s c k (omega arith))

@@ -19,7 +19,7 @@ use Rattle.plan.specs.Open.{empty_at, open_plan, pages_kept, scan_row}
 use Rattle.plan.specs.State.{WriterState, with_tip}
 use Rattle.plan.specs.Sync.{sync_plan}
 use Rattle.plan.specs.Truncate.{behind_sync, cut_plan}
-use Rattle.paged.specs.declared.refusal.BlobCall.TheVariants.{Write as write-call}
+use Rattle.paged.specs.declared.refusal.BlobCall.TheVariants.{Write as write_call}
 use Rattle.paged.specs.declared.refusal.StateRefusal.TheVariants.{CallFailed}
 use Rattle.law.specs.Events.{Bytes, accepted, append, opening, refused_state, restart, sync, truncate}
 use Rattle.law.specs.Example.{Example, four, three, through, torn, two}
@@ -248,9 +248,9 @@ step_grow : Step older_sum 4 (at (through three) (held recovering synced) true) 
 unfolding small flush_plan append_plan
 step_grow = appends {v = through three} {u = through three} {phase = recovering} {w = synced} {m = true} {bytes = 4 ∷ []} (small_bytes (4 ∷ []) refl) refl
 
-step_torn : Step older_sum 4 (at (through three) (held recovering grown) false) sync (refused_state (CallFailed write-call 0)) (at torn_blob None false)
+step_torn : Step older_sum 4 (at (through three) (held recovering grown) false) sync (refused_state (CallFailed write_call 0)) (at torn_blob None false)
 unfolding start part physical_page physical_pages sync_plan
-step_torn = sync_stopped {v = through three} {u = torn_blob} {phase = recovering} {w = grown} {m = false} {k = CallFailed write-call 0}
+step_torn = sync_stopped {v = through three} {u = torn_blob} {phase = recovering} {w = grown} {m = false} {k = CallFailed write_call 0}
     (inl (sound_torn, (omega arith, (refl, refl, (Failed, ((omega arith, omega arith), inr (refl, torn_write)))))))
 
 step_after : Step older_sum 4 (at torn_blob None false) restart accepted (at (through torn) None true)

@@ -180,14 +180,14 @@ module _ (sum : List ℕ → ℕ) (fits : FitsFour sum) (p : ℕ) (pos : 0 < p) 
         let same = read_same (open_plan sum p (capacity_for p wish) x.0.blob.shown).ops x.0.blob x.1 (y.reads_only (capacity_for p wish)) x.2.1 in
         let here : t ≡ x.0.blob.shown = sym x.2.2 ∙ ap (λ z. z.shown) same in
         (here ∙ o.1, ap (opened_log sum p) here ∙ y.opened);
-    tells_altered = λ one v h e before after c call q s end l i j b inside covered small-byte other.
+    tells_altered = λ one v h e before after c call q s end l i j b inside covered small_byte other.
         let x = shorter sum p before after (event call accepted s) (begin v) end l in
         let o = last_open sum p (begin v) x.0 before call s q x.1 in
         let y = ends v h e before c call q s x.0 x.1 in
         let here = sym o.1 in
         subst (λ z. TellsAltered sum p z i j b) o.1
         (told sum one p small x.0.blob y.good.sound y.neat i j b (subst (λ z. i < whole_pages p z) here inside)
-        (subst (λ z. j < cover sum (page_at p z i)) here covered) small-byte
+        (subst (λ z. j < cover sum (page_at p z i)) here covered) small_byte
         (λ z. other (z ∙ ap (λ y. get_or y (start p i + j) 0) o.1)));
   }
 

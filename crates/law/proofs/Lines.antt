@@ -23,7 +23,7 @@ use Rattle.law.proofs.Steps.{append_kept}
 use Rattle.law.proofs.Sync.{sync_kept}
 use Rattle.law.proofs.Truncated.{truncate_ran}
 use Rattle.law.proofs.Writer.{Flushed, Inv, Tracks}
-use Rattle.law.proofs.Truncated.{truncate_stopped as truncate-over}
+use Rattle.law.proofs.Truncated.{truncate_stopped as truncate_over}
 
 abbrev pub WithWriter : (List ℕ → ℕ) → ℕ → BlobValue → Option LineWriter → Account → Type 0
 WithWriter sum p v None a = Unit {0}
@@ -136,7 +136,7 @@ module _ (sum : List ℕ → ℕ) (fits : FitsFour sum) (p : ℕ) (pos : 0 < p) 
       record { sound = x.0.sound; guard = x.0.guard; writer = x.0; settled = λ _. x.1.0 }
   step a g q (truncate_refused tip page e) = g
   step a g q (truncate_stopped {v} {u} {w} {m} {n} {k} d) =
-      over u (record { log = a.log; promise = take n a.promise }) (truncate-over sum fits p pos small v w n a.log a.promise g.writer u k d)
+      over u (record { log = a.log; promise = take n a.promise }) (truncate_over sum fits p pos small v w n a.log a.promise g.writer u k d)
   step a g q hands_over = record { sound = g.sound; guard = g.guard; writer = g.writer; settled = g.settled }
   step a g q (reads_page {v} {u} {w} {m} {i} before after x d) = by_page v u w m a (start p i) before after (Ok x) g q d.1
   step a g q (page_refused {v} {u} {w} {m} before after d) = subst (λ y. Good sum p y w m a) (sym d.1) g

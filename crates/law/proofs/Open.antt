@@ -28,8 +28,8 @@ use Rattle.law.proofs.Standing.{guarded, standing_here}
 use Rattle.law.proofs.Steps.{bytes_front, nonzero}
 use Rattle.law.proofs.Verdicts.{Told, verdict_told}
 use Rattle.law.proofs.Writer.{AllNeat, Flushed, Inv, Tracks}
-use Rattle.paged.specs.declared.refusal.BlobCall.TheVariants.{Resize as resize-call}
-use Rattle.paged.specs.declared.refusal.BlobCall.TheVariants.{Settle as settle-call}
+use Rattle.paged.specs.declared.refusal.BlobCall.TheVariants.{Resize as resize_call}
+use Rattle.paged.specs.declared.refusal.BlobCall.TheVariants.{Settle as settle_call}
 
 module _ (sum : List ℕ → ℕ) (p : ℕ) (s : List ℕ) where
   pub scan_ran : (v m : BlobValue) (n : ℕ) → Carried v (scan_row sum p s n) m (Ok tt) → m ≡ v
@@ -326,10 +326,10 @@ module _ (sum : List ℕ → ℕ) (p : ℕ) (pos : 0 < p) (capacity : ℕ) (v : 
     stopped = λ u k d. ⊎_elim
         (λ z. scan_stopped sum p v.shown v u k promise all guard z)
         (λ z. ⊎_elim
-        (λ y. let x = fault_stop resize-call (start p many) (λ fault. Resized v (start p many) u (Err fault)) k y.1 in
+        (λ y. let x = fault_stop resize_call (start p many) (λ fault. Resized v (start p many) u (Err fault)) k y.1 in
         (y.0, resized_guard u (Err x.0) x.1))
         (λ y. ⊎_elim
-        (λ x. let q = fault_stop settle-call 0 (λ fault. Settling y.0 u (Err fault)) k x.1 in
+        (λ x. let q = fault_stop settle_call 0 (λ fault. Settling y.0 u (Err fault)) k x.1 in
         (x.0, settle_keeps sum p y.0 u promise (Err q.0) x.0 q.1 (resized_guard y.0 (Ok tt) y.1.1)))
         (λ x. absurd x.1.2)
         y.1.2)

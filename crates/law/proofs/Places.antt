@@ -69,7 +69,7 @@ module _ (p : ℕ) (x y : List ℕ) (w : Slot) (footer : (k : ℕ) → k < 6 →
 
 -- pages of two lists of bytes
 module _ (sum : List ℕ → ℕ) (p : ℕ) (s t : List ℕ) (i : ℕ) (w : Slot)
-    (in-s : start p i + (p + 12) ≤ length s) (in-t : start p i + (p + 12) ≤ length t)
+    (in_s : start p i + (p + 12) ≤ length s) (in_t : start p i + (p + 12) ≤ length t)
     (slot_same : (k : ℕ) → k < 6 → get_or t (start p i + (slot_start p w + k)) 0 ≡ get_or s (start p i + (slot_start p w + k)) 0) where
   footer : (k : ℕ) → k < 6 → get_or (page_at p t i) (slot_start p w + k) 0 ≡ get_or (page_at p s i) (slot_start p w + k) 0
   footer k h = let l = slot_inside p w k h in page_byte p t i (slot_start p w + k) l ∙ slot_same k h ∙ sym (page_byte p s i (slot_start p w + k) l)
@@ -79,5 +79,5 @@ module _ (sum : List ℕ → ℕ) (p : ℕ) (s t : List ℕ) (i : ℕ) (w : Slot
 
   pub valid_stays : ((k : ℕ) → k < (slot_of p (page_at p s i) w).len → get_or t (start p i + k) 0 ≡ get_or s (start p i + k) 0)
       → Valid sum p (page_at p s i) w → Valid sum p (page_at p t i) w
-  valid_stays e v = same_valid p (page_at p s i) (page_at p t i) w footer sum (omega (arith, page_long p s i in-s)) (omega (arith, page_long p t i in-t))
+  valid_stays e v = same_valid p (page_at p s i) (page_at p t i) w footer sum (omega (arith, page_long p s i in_s)) (omega (arith, page_long p t i in_t))
       (λ k h. let l : k < p + 12 = omega (arith, v.high) in page_byte p t i k l ∙ e k h ∙ sym (page_byte p s i k l)) v

@@ -31,7 +31,7 @@ use Rattle.law.proofs.Standing.{guarded}
 use Rattle.law.proofs.Steps.{bytes_drop, firm_or, flushed_counts, full_older, kept_flushed, suc_nonzero}
 use Rattle.law.proofs.Writer.{AllNeat, Counts, Even, Flushed, Inv, Tracks}
 use Rattle.law.proofs.Written.{part_long}
-use Rattle.paged.specs.declared.refusal.BlobCall.TheVariants.{Settle as settle-call}
+use Rattle.paged.specs.declared.refusal.BlobCall.TheVariants.{Settle as settle_call}
 
 no_byte : (b : ℕ) → gap ≡ byte b → ⊥
 no_byte b e = let z : ◌≡◌ {A = ℕ} 0 1 = cc in omega arith
@@ -195,7 +195,7 @@ module _ (sum : List ℕ → ℕ) (fits : FitsFour sum) (p : ℕ) (pos : 0 < p) 
             (subst (λ t. Tracks sum p t w.page w.tip log) (sym shows) i.tracks) even refl);
         still = λ u d. subst (λ z. Guard sum p z promise) (sym d.1.2) (settle_keeps sum p v d.0 promise (Ok tt) d.1.0 d.1.1 i.guard);
         stopped = λ u k d. ⊎_elim
-            (λ z. let y = fault_stop settle-call 0 (λ fault. Settling v u (Err fault)) k z.1 in
+            (λ z. let y = fault_stop settle_call 0 (λ fault. Settling v u (Err fault)) k z.1 in
             (z.0, settle_keeps sum p v u promise (Err y.0) z.0 y.1 i.guard))
             (λ z. absurd z.1.2)
             d;

@@ -3,7 +3,7 @@
 use Rattle.std.specs.Prelude.{◌≡◌, ℕ, true, false, List, [], ◌∷◌, length, nat_lt}
 use Rattle.checks.specs.Older.{older_sum}
 use Rattle.blob.specs.Value.{BlobValue, Settled}
-use Rattle.paged.specs.declared.refusal.BlobCall.TheVariants.{Write as write-call}
+use Rattle.paged.specs.declared.refusal.BlobCall.TheVariants.{Write as write_call}
 use Rattle.paged.specs.declared.refusal.StateRefusal.TheVariants.{CallFailed}
 use Rattle.law.specs.Log.{byte, Holds}
 use Rattle.law.specs.Events.{opening, append, sync, truncate, restart, accepted, refused_state, Event, event, account}
@@ -47,7 +47,7 @@ torn_events =
     ∷ event (append (1 ∷ 2 ∷ 3 ∷ [])) accepted []
     ∷ event sync accepted three
     ∷ event (append (4 ∷ [])) accepted three
-    ∷ event sync (refused_state (CallFailed write-call 0)) torn
+    ∷ event sync (refused_state (CallFailed write_call 0)) torn
     ∷ event restart accepted torn
     ∷ event (opening 8 16) accepted torn
     ∷ []
