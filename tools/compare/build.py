@@ -7,7 +7,7 @@ import subprocess
 import sys
 
 HERE = os.path.dirname(os.path.abspath(__file__))
-WORK = os.path.normpath(os.path.join(HERE, "..", "..", "target", "compare"))
+WORK = os.path.join(HERE, "out")
 
 # The crate's files, by their place in the crate.
 CRATE_FILES = [
