@@ -1,4 +1,4 @@
--- CRC-32C of RFC 3720, bit by bit. Bits are added without carry, by bitXor.
+-- CRC-32C of RFC 3720, bit by bit. Bits are added without carry, by bit_xor.
 use Rattle.std.specs.Prelude.{◌≡◌, ℕ, zero, suc, ◌+◌, ◌*◌, ◌/◌, ◌%◌, ◌^◌, cond, List, [], ◌∷◌, ◌==◌, bit_xor}
 
 -- the n lowest bits of x in reverse order

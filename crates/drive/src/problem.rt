@@ -22,7 +22,7 @@ pub enum Problem {
     // Contents are only for a blob that was made on the line before.
     BlobNotNew,
     NotMade(MakeError),
-    // The library doesn't have the call.
+    // The call isn't carried out here yet.
     NoTruncate,
     NoHandover,
     NoMemory,
