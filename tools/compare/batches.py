@@ -1,5 +1,6 @@
 """Runs scripts through two programs and compares what they print, line by line."""
 
+import hashlib
 import os
 import subprocess
 import threading
@@ -14,6 +15,15 @@ TIME_LIMIT = 120
 # A call that a port may not have yet, and a script that asks for it.
 OPENED = ["blob through 100", "open 4 8 ="]
 MAY_LACK = {"truncate": "truncate 0", "handover": "handover"}
+
+
+def distinct(scripts, seen):
+    """Those of the scripts that did not come before; `seen` has a mark for each that did."""
+    for script in scripts:
+        mark = hashlib.blake2b("\n".join(script).encode(), digest_size=16).digest()
+        if mark not in seen:
+            seen.add(mark)
+            yield script
 
 
 def calls_of(script):
