@@ -1,2 +1,3 @@
 mod PageReads
+pub mod Answered
 pub mod Rows

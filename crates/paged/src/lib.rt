@@ -5,6 +5,6 @@ mod page_read;
 mod refusal;
 mod sync_state;
 
-pub use page_read::{page_buffer_refusal, page_verdict, read_page};
+pub use page_read::{check_page_buffer, page_verdict, read_page};
 pub use refusal::{BlobCall, InputRefusal, Refusal, StateRefusal};
 pub use sync_state::{Event, SyncState};

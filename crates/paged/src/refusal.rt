@@ -1,5 +1,8 @@
 ghost use Rattle.std.specs.Prelude.{◌≡◌};
-ghost use Rattle.paged.specs.Refusals.{input_number, state_number};
+ghost use Rattle.paged.specs.Refusals.{input_number, state_number, answered};
+ghost use Rattle.paged.specs.declared.refusal.Refusal.TheVariants.{Input, State};
+
+use blob::Fault;
 
 // Why a call was refused from what it was handed. Nothing was touched.
 #[derive(Clone, Copy, PartialEq, Eq, Debug)]
@@ -43,6 +46,18 @@ pub enum BlobCall {
     Settle,
 }
 
+impl BlobCall {
+    // What this call of a blob answered; a fault becomes the refusal that names the call and its offset.
+    pub fn answer<T>(self, offset: u64, answer: Result<T, Fault>) -> Result<T, StateRefusal>
+        ensures { result ≡ answered self offset answer }
+    {
+        match answer {
+            Ok(value) => Ok(value),
+            Err(_) => Err(StateRefusal::CallFailed(self, offset)),
+        }
+    }
+}
+
 // Why a call was refused by the state that it found. The writer is used up, and blob calls already made stand.
 #[derive(Clone, Copy, PartialEq, Eq, Debug)]
 pub enum StateRefusal {
@@ -75,4 +90,20 @@ impl StateRefusal {
 pub enum Refusal<W> {
     Input(W, InputRefusal),
     State(StateRefusal),
+}
+
+impl From<InputRefusal> for Refusal<()> {
+    ghost from_gives = { λ refusal r. r ≡ Input tt refusal };
+
+    fn from(refusal: InputRefusal) -> Refusal<()> {
+        Refusal::Input((), refusal)
+    }
+}
+
+impl<W> From<StateRefusal> for Refusal<W> {
+    ghost from_gives = { λ refusal r. r ≡ State refusal };
+
+    fn from(refusal: StateRefusal) -> Refusal<W> {
+        Refusal::State(refusal)
+    }
 }
