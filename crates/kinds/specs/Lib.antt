@@ -1,4 +1,6 @@
+pub mod Bytes
 pub mod Cuts
+pub mod Guards
 pub mod Held
 pub mod Later
 pub mod Making
