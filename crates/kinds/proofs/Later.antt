@@ -1,5 +1,6 @@
 -- What a write of a settle-later blob keeps, over its two strings alone.
-use Rattle.std.proofs.Common.{◌≡◌, ℕ, ◌+◌, ◌-◌, ◌<◌, ◌≤◌, Bool, true, false, ◌⊎◌, List, length, get_or, take, Some, None, Option, Ok, Err, Result, ◌==◌, sym, refl, inr, arith, rules}
+use Rattle.std.proofs.Common.{◌≡◌, ℕ, ◌+◌, ◌≤◌, Bool, true, false, List, length, get_or, take, Some, None, Option, Ok, Err, Result, ◌==◌, sym, refl, inr, arith, rules}
+use Rattle.std.specs.Prelude.{IsTrue, OkIff, IsOkUnless}
 use Rattle.std.proofs.lemmas.List.{places, take_all}
 use Rattle.std.proofs.lemmas.Bool.{eqb-true}
 use Rattle.std.proofs.lemmas.Bool.Decides.{nat_tests}
@@ -7,8 +8,7 @@ use Rattle.blob.specs.declared.Fault.{Fault}
 use Rattle.blob.specs.declared.Fault.TheVariants.{Refused, Failed}
 use Rattle.blob.specs.Calls.{overwritten, SameByte, WriteKeeps, WriteDone, WriteCut, Wrote}
 use Rattle.kinds.specs.Cuts.{stored}
-use Rattle.kinds.specs.Guards.{OkOnlyIf}
-use Rattle.kinds.specs.Later.{same_at, later_value}
+use Rattle.kinds.specs.Later.{later_value}
 
 pub stored_most : (cut : Option ℕ) (written n : ℕ) → stored cut written n ≤ n
 stored_most None written n = omega arith
@@ -47,10 +47,10 @@ module _ (s t bs : List ℕ) (c o n : ℕ) (below : o ≤ length s) (fits : o + 
   }
 
   -- the answer names a fault exactly where the power went down
-  pub wrote : (up : Bool) (r : Result (Unit {0}) Fault) → up ≡ (n == length bs) → OkOnlyIf (up ≡ true) Failed r
+  pub wrote : (up : Bool) (r : Result (Unit {0}) Fault) → up ≡ (n == length bs) → OkIff r (IsTrue up) tt → IsOkUnless r Failed
       → Wrote (later_value s t c true) o bs (later_value (overwritten s o (take n bs)) t c up) r
-  wrote true (Ok u) e h = write_done (eqb-true _ _ (sym e))
-  wrote false (Ok u) e h = absurd (cc)
-  wrote true (Err f) e h = absurd (h.0 refl)
-  wrote false (Err Failed) e h = ((below, fits), inr (refl, write_cut))
-  wrote false (Err Refused) e h = absurd (cc)
+  wrote true (Ok u) e h i = write_done (eqb-true _ _ (sym e))
+  wrote false (Ok u) e h i = absurd (cc)
+  wrote true (Err f) e h i = absurd (h refl)
+  wrote false (Err Failed) e h i = ((below, fits), inr (refl, write_cut))
+  wrote false (Err Refused) e h i = absurd (cc)

@@ -1,6 +1,5 @@
 pub mod Bytes
 pub mod Cuts
-pub mod Guards
 pub mod Held
 pub mod Later
 pub mod Making

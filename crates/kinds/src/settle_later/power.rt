@@ -1,8 +1,7 @@
 // What power does: a write may take it down, and a restart brings it back.
-ghost use Rattle.std.specs.Prelude.{◌≡◌, ◌+◌, ◌≤◌, true, length};
+ghost use Rattle.std.specs.Prelude.{◌≡◌, ◌+◌, ◌≤◌, length, IsTrue, OkIff, IsOkUnless};
 ghost use Rattle.kinds.specs.Held.{held, room};
 ghost use Rattle.kinds.specs.Cuts.{stored, Stored, CameBack};
-ghost use Rattle.kinds.specs.Guards.{OkOnlyIf};
 ghost use Rattle.kinds.specs.Later.{later};
 
 use super::SettleLater;
@@ -18,7 +17,8 @@ impl SettleLater {
 
     // Passes where power is up.
     pub(super) fn powered(&self) -> Result<(), Fault>
-        ensures { OkOnlyIf (self.now.power ≡ true) Fault.Failed result }
+        ensures passes { OkIff result (IsTrue self.now.power) tt }
+        ensures fails { IsOkUnless result Fault.Failed }
     {
         if self.power {
             Ok(())

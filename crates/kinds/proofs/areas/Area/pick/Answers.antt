@@ -1,7 +1,14 @@
-use Rattle.std.proofs.Common.{◌<◌, ◌≢◌, length, arith, rules, get_or-set_other, get_or-set_same, below_more}
+use Rattle.std.proofs.Common.{arith, rules, below_more}
 use Rattle.std.proofs.lemmas.List.{with_items_is}
+use Rattle.std.proofs.lemmas.Grind.{common_steps}
 use Rattle.kinds.proofs.Picking.{picked}
 use Rattle.kinds.proofs.areas.Area.pick.Goals as goal
+
+pub loop-k-preserved : goal.loop-k-preserved
+loop-k-preserved c = (
+  below_more _ _ (λ j h. grind (arith, common_steps, c.loop-k.invariant.0 j h)) (grind (arith, common_steps, c.loop-k.invariant.1 c.loop-k.k)),
+  λ j h. grind (arith, common_steps, c.loop-k.invariant.1 j),
+)
 
 pub returns-clause-picked : goal.returns-clause-picked
 returns-clause-picked c =
