@@ -10,6 +10,7 @@ ghost use Rattle.kinds.specs.Bytes.{AllBytes};
 #[derive(Drop)]
 pub(crate) struct Area {
     string: Vec<u8>,
+    // Beside the Vec's own capacity, of which its calls promise only that it never shrinks.
     ceiling: u64,
     ghost within: { length string.items ≤ ceiling },
     ghost taken: { ceiling ≤ vec_capacity string },
