@@ -1,5 +1,2 @@
-mod Fronts
 mod Later
 mod Picking
-mod Settled
-mod Strings

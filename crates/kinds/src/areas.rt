@@ -1,15 +1,19 @@
-// A string of bytes that stands in memory taken once, so that it can grow up to a ceiling and never fail.
+// A string of bytes in memory that is taken once, for the whole ceiling: so no later change can fail.
 mod calls;
+mod guards;
 mod picks;
 
-ghost use Rattle.std.specs.Prelude.{ℕ, ◌^◌, ◌<◌, ◌≤◌, length, slice_index};
+ghost use Rattle.std.specs.Prelude.{◌^◌, ◌≤◌, length, vec_capacity};
+ghost use Rattle.kinds.specs.Bytes.{AllBytes};
 
-// The string is the first `len` bytes of `area`, and its ceiling the number of them all.
+// The string, whose length never passes the ceiling.
 #[derive(Drop)]
 pub(crate) struct Area {
-    area: Vec<u8>,
-    len: u64,
-    ghost within: { len ≤ length area.items },
-    ghost small: { length area.items ≤ 2 ^ 40 },
-    ghost bytes: { (k : ℕ) → slice_index area.items k < 256 },
+    string: Vec<u8>,
+    // Beside the Vec's own capacity, of which its calls promise only that it never shrinks.
+    ceiling: u64,
+    ghost within: { length string.items ≤ ceiling },
+    ghost taken: { ceiling ≤ vec_capacity string },
+    ghost small: { ceiling ≤ 2 ^ 40 },
+    ghost bytes: { AllBytes string.items },
 }

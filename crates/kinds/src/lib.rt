@@ -5,7 +5,11 @@ mod areas;
 mod settle_later;
 mod write_through;
 
+ghost use Rattle.std.specs.Prelude.{◌≡◌};
+ghost use Rattle.kinds.specs.declared.MakeError.TheVariants.{NoMemory};
+
 pub use settle_later::SettleLater;
+use std::alloc::AllocError;
 pub use write_through::WriteThrough;
 
 // Why a blob was not made.
@@ -16,6 +20,14 @@ pub enum MakeError {
     // The bytes that it is to hold are more than the ceiling.
     TooLong,
     NoMemory,
+}
+
+impl From<AllocError> for MakeError {
+    ghost from_gives = { λ _ e. e ≡ NoMemory };
+
+    fn from(_error: AllocError) -> MakeError {
+        MakeError::NoMemory
+    }
 }
 
 #[cfg(test)]

@@ -13,6 +13,7 @@ pub struct SettleLater {
     // What is shown, and what was shown at the last settle or restart.
     working: Area,
     settled: Area,
+    // No enum with the count in the case of power up: the count that a cut write leaves is promised with power down too.
     power: bool,
     // How many bytes were written since the last restart, and past how many a write takes the power down.
     written: u64,

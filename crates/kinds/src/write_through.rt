@@ -51,25 +51,19 @@ impl Blob for WriteThrough {
     }
 
     fn read(&mut self, offset: u64, buf: &mut [u8]) -> Result<(), Fault> {
-        if !self.area.has(offset, buf.len() as u64) {
-            return Err(Fault::Refused);
-        }
+        self.area.holds(offset, buf.len() as u64)?;
         self.area.read(offset, buf);
         Ok(())
     }
 
     fn write(&mut self, offset: u64, bytes: &[u8]) -> Result<(), Fault> {
-        if !self.area.takes(offset, bytes.len() as u64) {
-            return Err(Fault::Refused);
-        }
+        self.area.takes(offset, bytes.len() as u64)?;
         self.area.write(offset, bytes);
         Ok(())
     }
 
     fn resize(&mut self, len: u64) -> Result<(), Fault> {
-        if len > self.area.ceiling() {
-            return Err(Fault::Refused);
-        }
+        self.area.fits(len)?;
         self.area.resize(len);
         Ok(())
     }

@@ -1,6 +1,6 @@
 // What a restart leaves of two strings, chosen length and byte by byte by the bits of a pattern.
-ghost use Rattle.std.specs.Prelude.{◌≡◌, ℕ, ◌^◌, ◌<◌, ◌≤◌, length, if◌then◌else◌, slice_index};
-ghost use Rattle.kinds.specs.Held.{held, room, AllBytes};
+ghost use Rattle.std.specs.Prelude.{◌≡◌, length, if◌then◌else◌, slice_index};
+ghost use Rattle.kinds.specs.Held.{held, room};
 ghost use Rattle.kinds.specs.Picks.{bit, picked_length, from_settled, Picked};
 
 use super::Area;
@@ -16,45 +16,36 @@ fn bit_at(pattern: &[u8], i: usize) -> bool
     (byte >> (i % 8)) % 2 == 1
 }
 
-// The length that a restart leaves.
-fn picked_len(pattern: &[u8], working: u64, settled: u64) -> u64
-    ensures { result ≡ picked_length pattern.now working settled }
-{
-    if bit_at(pattern, 0) {
-        working.max(settled)
-    } else {
-        working.min(settled)
+// What a restart picks from: a pattern, the length of the working string, and the settled string.
+#[derive(Clone, Copy)]
+struct Pick<'a> {
+    pattern: &'a [u8],
+    working: usize,
+    settled: &'a [u8],
+}
+
+impl Pick<'_> {
+    // The length that a restart leaves.
+    fn len(&self) -> usize
+        ensures { result ≡ picked_length self.now.pattern.now self.now.working (length self.now.settled.now) }
+    {
+        let settled = self.settled.len();
+        if bit_at(self.pattern, 0) {
+            self.working.max(settled)
+        } else {
+            self.working.min(settled)
+        }
     }
-}
 
-// Whether a restart leaves the settled byte at the place `k`.
-fn takes_settled(pattern: &[u8], working: usize, settled: usize, k: usize) -> bool
-    requires { settled ≤ 2 ^ 40 }
-    ensures { result ≡ from_settled pattern.now working settled k }
-{
-    k < settled && (working <= k || !bit_at(pattern, k + 1))
-}
-
-// The byte that a restart leaves at the place `k`; of `working`, the first `working_len` bytes are the string.
-fn picked_byte(working: &[u8], working_len: usize, settled: &[u8], pattern: &[u8], k: usize) -> u8
-    requires { (k < length working.now) × (length settled.now ≤ 2 ^ 40) }
-    ensures { result ≡ (if from_settled pattern.now working_len (length settled.now) k then slice_index settled.now k else slice_index working.now k) }
-{
-    if takes_settled(pattern, working_len, settled.len(), k) {
-        settled[k]
-    } else {
-        working[k]
-    }
-}
-
-// Puts the bytes that a restart leaves into the first `len` places of `working`.
-fn pick_bytes(working: &mut [u8], working_len: usize, settled: &[u8], pattern: &[u8], len: usize)
-    requires { (len ≤ length working.old) × (length settled.now ≤ 2 ^ 40) }
-    ensures picked { (k : ℕ) → k < len → slice_index working.new k ≡ (if from_settled pattern.now working_len (length settled.now) k then slice_index settled.now k else slice_index working.old k) }
-    ensures bytes { AllBytes working.new }
-{
-    for k in 0..len {
-        working[k] = picked_byte(working, working_len, settled, pattern, k);
+    // The byte that a restart leaves at the place `k`, where the working string has `working` if it has the place.
+    fn byte(&self, k: usize, working: u8) -> u8
+        ensures { result ≡ (if from_settled self.now.pattern.now self.now.working (length self.now.settled.now) k then slice_index self.now.settled.now k else working) }
+    {
+        if k < self.settled.len() && (self.working <= k || !bit_at(self.pattern, k + 1)) {
+            self.settled[k]
+        } else {
+            working
+        }
     }
 }
 
@@ -65,16 +56,14 @@ impl Area {
         ensures picked { Picked pattern.now (held self.old) (held settled.now) (held self.new) }
         ensures room { room self.new ≡ room self.old }
     {
-        let len = picked_len(pattern, self.len, settled.len);
-        let working_len = self.len as usize;
-        let settled_len = settled.len as usize;
-        pick_bytes(
-            &mut self.area,
-            working_len,
-            &settled.area[0..settled_len],
+        let pick = Pick {
             pattern,
-            len as usize,
-        );
-        self.len = len;
+            working: self.string.len(),
+            settled: settled.bytes(),
+        };
+        self.string.resize(pick.len(), 0).unwrap();
+        for (k, byte) in self.string.iter_mut().enumerate() {
+            *byte = pick.byte(k, *byte);
+        }
     }
 }

@@ -24,12 +24,8 @@ impl Blob for SettleLater {
         ensures read { Read (later self.old) offset buf.old buf.new (later self.new) result }
         ensures same { self.new ≡ self.old }
     {
-        if !self.working.has(offset, buf.len() as u64) {
-            return Err(Fault::Refused);
-        }
-        if !self.power {
-            return Err(Fault::Failed);
-        }
+        self.working.holds(offset, buf.len() as u64)?;
+        self.powered()?;
         self.working.read(offset, buf);
         Ok(())
     }
@@ -38,18 +34,10 @@ impl Blob for SettleLater {
         ensures wrote { Wrote (later self.old) offset bytes.now (later self.new) result }
         ensures stores { Stores self.old offset bytes.now self.new result }
     {
-        if !self.working.takes(offset, bytes.len() as u64) {
-            return Err(Fault::Refused);
-        }
-        if !self.power {
-            return Err(Fault::Failed);
-        }
+        self.working.takes(offset, bytes.len() as u64)?;
+        self.powered()?;
         self.store(offset, bytes);
-        if self.power {
-            Ok(())
-        } else {
-            Err(Fault::Failed)
-        }
+        self.powered()
     }
 
     fn resize(&mut self, len: u64) -> Result<(), Fault>
@@ -57,12 +45,8 @@ impl Blob for SettleLater {
         ensures settled { self.new.settled ≡ self.old.settled }
         ensures plan { KeepsPlan self.old self.new }
     {
-        if len > self.working.ceiling() {
-            return Err(Fault::Refused);
-        }
-        if !self.power {
-            return Err(Fault::Failed);
-        }
+        self.working.fits(len)?;
+        self.powered()?;
         self.working.resize(len);
         Ok(())
     }
@@ -71,9 +55,7 @@ impl Blob for SettleLater {
         ensures settles { Settling (later self.old) (later self.new) result }
         ensures plan { KeepsPlan self.old self.new }
     {
-        if !self.power {
-            return Err(Fault::Failed);
-        }
+        self.powered()?;
         self.settled.copy_from(&self.working);
         Ok(())
     }

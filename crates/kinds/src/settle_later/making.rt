@@ -34,9 +34,7 @@ impl SettleLater {
     {
         let working = Area::with_bytes(heap, ceiling, bytes)?;
         let settled = Area::with_bytes(heap, ceiling, bytes)?;
-        let Ok(pattern) = Vec::from_slice(heap, pattern) else {
-            return Err(MakeError::NoMemory);
-        };
+        let pattern = Vec::from_slice(heap, pattern)?;
         Ok(SettleLater {
             working,
             settled,

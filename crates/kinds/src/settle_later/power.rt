@@ -1,20 +1,11 @@
 // What power does: a write may take it down, and a restart brings it back.
-ghost use Rattle.std.specs.Prelude.{◌≡◌, ◌+◌, ◌≤◌, length};
+ghost use Rattle.std.specs.Prelude.{◌≡◌, ◌+◌, ◌≤◌, length, IsTrue, OkIff, IsOkUnless};
 ghost use Rattle.kinds.specs.Held.{held, room};
 ghost use Rattle.kinds.specs.Cuts.{stored, Stored, CameBack};
 ghost use Rattle.kinds.specs.Later.{later};
 
 use super::SettleLater;
-
-// How many of `n` bytes are stored before the power goes down.
-fn stored_count(cut: Option<u64>, written: u64, n: u64) -> u64
-    ensures { result ≡ stored cut written n }
-{
-    match cut {
-        Some(c) => n.min(c.saturating_sub(written)),
-        None => n,
-    }
-}
+use blob::Fault;
 
 impl SettleLater {
     // The shown bytes, which power has no part in.
@@ -24,13 +15,33 @@ impl SettleLater {
         self.working.bytes()
     }
 
+    // Passes where power is up.
+    pub(super) fn powered(&self) -> Result<(), Fault>
+        ensures passes { OkIff result (IsTrue self.now.power) tt }
+        ensures fails { IsOkUnless result Fault.Failed }
+    {
+        if self.power {
+            Ok(())
+        } else {
+            Err(Fault::Failed)
+        }
+    }
+
+    // How many of `n` bytes are stored before the power goes down.
+    fn stored_count(&self, n: u64) -> u64
+        ensures { result ≡ stored self.now.cut self.now.written n }
+    {
+        self.cut
+            .map_or(n, |cut| n.min(cut.saturating_sub(self.written)))
+    }
+
     // Stores `bytes` from `offset` on, or as many of the first of them as come before the cut; then power is down.
     pub(super) fn store(&mut self, offset: u64, bytes: &[u8])
         requires { (offset ≤ length (held self.old.working)) × (offset + length bytes.now ≤ room self.old.working) }
         ensures { Stored self.old offset bytes.now self.new }
     {
         let n = bytes.len() as u64;
-        let count = stored_count(self.cut, self.written, n);
+        let count = self.stored_count(n);
         self.working.write(offset, &bytes[0..count as usize]);
         self.written = self.written.saturating_add(count);
         self.power = count == n;

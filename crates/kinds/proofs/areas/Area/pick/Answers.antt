@@ -1,26 +1,17 @@
-use Rattle.std.proofs.Common.{◌≡◌, length, vec_items, arith, rules}
-use native.Mathlib.Nat.{sub-zero}
-use Rattle.std.proofs.lemmas.List.{with_items_is, length-take-le}
-use Rattle.kinds.proofs.Picking.{picked, picked_most}
+use Rattle.std.proofs.Common.{arith, rules, below_more}
+use Rattle.std.proofs.lemmas.List.{with_items_is}
+use Rattle.std.proofs.lemmas.Grind.{common_steps}
+use Rattle.kinds.proofs.Picking.{picked}
 use Rattle.kinds.proofs.areas.Area.pick.Goals as goal
 
-pub invariant_of-self : goal.invariant_of-self
-invariant_of-self c =
-    let l : length c.pick_bytes.new.working ≡ length (vec_items c.args.self.now.area) = search rules in
-    rw (with_items_is c.args.self.now.area c.pick_bytes.new.working (search rules))
-    (record { within = search rules; small = omega arith; bytes = c.pick_bytes.ensures.bytes })
+pub loop-k-preserved : goal.loop-k-preserved
+loop-k-preserved c = (
+  below_more _ _ (λ j h. grind (arith, common_steps, c.loop-k.invariant.0 j h)) (grind (arith, common_steps, c.loop-k.invariant.1 c.loop-k.k)),
+  λ j h. grind (arith, common_steps, c.loop-k.invariant.1 j),
+)
 
-pub returns : goal.returns
-returns c =
-    let e = with_items_is c.args.self.now.area c.pick_bytes.new.working (search rules) in
-    record {
-      picked =
-          rw (e, c.picked_len-len.ensures)
-          (picked _ (vec_items c.args.self.now.area) (vec_items c.args.settled.now.area) c.pick_bytes.new.working _ _ c.args.self.now.within c.args.settled.now.within
-          (let l : length c.pick_bytes.new.working ≡ length (vec_items c.args.self.now.area) = search rules in
-          omega (arith, picked_most c.args.pattern.now c.args.self.now.len c.args.settled.now.len))
-          (λ k i.
-          rw (sub-zero, c.deref.ensures.value, c.deref_mut.ensures.value, length-take-le c.args.settled.now.len (vec_items c.args.settled.now.area) c.args.settled.now.within)
-          at (c.pick_bytes.ensures.picked k (omega arith))));
-      room = rw e (search rules);
-    }
+pub returns-clause-picked : goal.returns-clause-picked
+returns-clause-picked c =
+    rw (with_items_is c.resize.new.self c.loop-k.byte-items (search rules))
+    (picked _ _ c.deref_mut-byte-items.result.now _ _ (search rules) (λ k h i. search rules)
+    (λ k h. let e = c.loop-k.invariant.0 k (omega arith) in search rules))
