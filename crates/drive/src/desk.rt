@@ -91,15 +91,19 @@ impl Desk {
         check: &C,
         opening: &Opening,
     ) -> Result<Answer, Problem> {
-        let Opening {
-            page_size,
-            wish,
-            size,
-        } = *opening;
-        let told = size.unwrap_or(blob.size());
+        let page_size = opening.page_size;
+        let told = opening.size.unwrap_or(blob.size());
         let mut tip = zeros(self.heap, opening.tip_room())?;
         let mut page = zeros(self.heap, page_size as usize + 12)?;
-        match Recovery::open(blob, check, page_size, wish, told, &mut tip, &mut page) {
+        match Recovery::open(
+            blob,
+            check,
+            page_size,
+            opening.wish,
+            told,
+            &mut tip,
+            &mut page,
+        ) {
             Ok(w) => Ok(self.seat(w, tip, page)),
             Err(refusal) => Ok(self.not_opened(refusal)),
         }
@@ -145,7 +149,7 @@ impl Desk {
         })
     }
 
-    // Hands the writer and its buffers to a call, and keeps the writer that the call gives back.
+    // Hands the writer and its buffers to a call, and keeps the writer that the call gives back. Without a writer nothing is called.
     fn by_writer<F>(&mut self, call: F) -> Answer
     where
         F: FnOnce(Recovery, &mut [u8], &mut [u8]) -> Result<(Recovery, Answer), Refusal<Recovery>>,

@@ -34,15 +34,11 @@ struct Vector<'a> {
 // Prints the check of each string, and whether it is the expected one. Answers whether all are.
 fn held(rt: &impl Print, check: &impl Check, vectors: &[Vector]) -> anyhow::Result<bool> {
     let mut all = true;
-    for Vector {
-        name,
-        bytes,
-        expected,
-    } in vectors {
-        let computed = check.checksum(bytes);
-        let holds = computed == *expected;
+    for v in vectors {
+        let computed = check.checksum(v.bytes);
+        let holds = computed == v.expected;
         let verdict = if holds { "ok" } else { "WRONG" };
-        println!(rt; "{name}: {computed:#010x} {verdict}")?;
+        println!(rt; "{}: {computed:#010x} {verdict}", v.name)?;
         all &= holds;
     }
     Ok(all)
