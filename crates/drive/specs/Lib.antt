@@ -1,3 +1,4 @@
+pub mod Chosen
 pub mod Rooms
 pub mod Turns
 pub mod Words

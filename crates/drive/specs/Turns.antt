@@ -1,10 +1,9 @@
--- Who holds the writer after a call that was refused.
+-- Which writer there is after a call that was refused.
+use Rattle.std.specs.Prelude.{Option, Some, None}
 use Rattle.paged.specs.declared.refusal.Refusal.{Refusal}
 use Rattle.paged.specs.declared.refusal.Refusal.TheVariants.{Input, State}
 use Rattle.writer.specs.declared.writer.Writer.{Writer}
 use Rattle.writer.specs.declared.writer.Recovering.{Recovering}
-use Rattle.drive.specs.declared.handle.Handle.{Handle}
-use Rattle.drive.specs.declared.handle.Handle.TheVariants.{Nobody, Recovering as Held}
 use Rattle.drive.specs.declared.answer.Answer.{Answer}
 use Rattle.drive.specs.declared.answer.Answer.TheVariants.{Refused, Stopped}
 
@@ -14,11 +13,11 @@ refusal_answer (Input w why) = Refused why
 refusal_answer (State why) = Stopped why
 
 -- a refusal from the input gives the writer back, one from the state ends it
-abbrev pub handle_after : Refusal (Writer Recovering) → Handle
-handle_after (Input w why) = Held w
-handle_after (State why) = Nobody
+abbrev pub writer_after : Refusal (Writer Recovering) → Option (Writer Recovering)
+writer_after (Input w why) = Some w
+writer_after (State why) = None
 
 -- an opening that is refused from the input leaves the writer that there is
-abbrev pub handle_after_opening : Refusal (Unit {0}) → Handle → Handle
-handle_after_opening (Input u why) h = h
-handle_after_opening (State why) h = Nobody
+abbrev pub writer_after_opening : Refusal (Unit {0}) → Option (Writer Recovering) → Option (Writer Recovering)
+writer_after_opening (Input u why) w = w
+writer_after_opening (State why) w = None

@@ -1,6 +1,9 @@
 // What a call comes to, as it is printed.
+ghost use Rattle.std.specs.Prelude.{◌≡◌};
+ghost use Rattle.drive.specs.Turns.{refusal_answer};
+
 use page::{ActiveChecksum, Slot};
-use paged::{BlobCall, InputRefusal, StateRefusal};
+use paged::{BlobCall, InputRefusal, Refusal, StateRefusal};
 use std::fmt;
 
 #[derive(Drop)]
@@ -17,6 +20,17 @@ pub enum Answer {
     Stopped(StateRefusal),
 }
 
+impl From<Refusal<()>> for Answer {
+    ghost from_gives = { λ refusal a. a ≡ refusal_answer refusal };
+
+    fn from(refusal: Refusal<()>) -> Answer {
+        match refusal {
+            Refusal::Input((), why) => Answer::Refused(why),
+            Refusal::State(why) => Answer::Stopped(why),
+        }
+    }
+}
+
 impl fmt::Display for Answer {
     fn fmt<W: fmt::Write>(&self, f: &mut fmt::Formatter<W>) -> fmt::Result {
         match self {
@@ -24,58 +38,60 @@ impl fmt::Display for Answer {
             Answer::Restarted => f.write_str("ok"),
             Answer::Size(size) => write!(f, "ok size {size}"),
             Answer::Appended { offset, size } => write!(f, "ok offset {offset} size {size}"),
-            Answer::Page(active, bytes) => write_page(*active, bytes.as_slice(), f),
-            Answer::Refused(refusal) => write_number(refusal.number(), f),
-            Answer::Stopped(refusal) => write_stopped(*refusal, f),
+            Answer::Page(ActiveChecksum { slot, len, check }, bytes) => {
+                let slot = SlotNumber(*slot);
+                let bytes = Hex(bytes.as_slice());
+                write!(f, "ok slot {slot} len {len} check {check} bytes {bytes}")
+            }
+            Answer::Refused(why) => write!(f, "refused {}", why.number()),
+            Answer::Stopped(why @ StateRefusal::CallFailed(call, offset)) => {
+                write!(f, "refused {} {} {offset}", why.number(), CallWord(*call))
+            }
+            Answer::Stopped(why) => write!(f, "refused {}", why.number()),
         }
     }
 }
 
-fn write_number<W: fmt::Write>(number: u8, f: &mut fmt::Formatter<W>) -> fmt::Result {
-    write!(f, "refused {number}")
-}
+// A slot as a number: First is 1.
+#[derive(Clone, Copy)]
+struct SlotNumber(Slot);
 
-fn write_stopped<W: fmt::Write>(refusal: StateRefusal, f: &mut fmt::Formatter<W>) -> fmt::Result {
-    write_number(refusal.number(), f)?;
-    match refusal {
-        StateRefusal::CallFailed(call, offset) => write!(f, " {} {offset}", call_word(call)),
-        _ => Ok(()),
+impl fmt::Display for SlotNumber {
+    fn fmt<W: fmt::Write>(&self, f: &mut fmt::Formatter<W>) -> fmt::Result {
+        f.write_str(match self.0 {
+            Slot::First => "1",
+            Slot::Second => "2",
+        })
     }
 }
 
-fn write_page<W: fmt::Write>(
-    active: ActiveChecksum,
-    bytes: &[u8],
-    f: &mut fmt::Formatter<W>,
-) -> fmt::Result {
-    let ActiveChecksum { slot, len, check } = active;
-    let number = slot_number(slot);
-    write!(f, "ok slot {number} len {len} check {check} bytes ")?;
-    write_hex(bytes, f)
-}
+// A call of the blob as a word.
+#[derive(Clone, Copy)]
+struct CallWord(BlobCall);
 
-fn write_hex<W: fmt::Write>(bytes: &[u8], f: &mut fmt::Formatter<W>) -> fmt::Result {
-    if bytes.is_empty() {
-        return f.write_str("-");
-    }
-    for byte in bytes {
-        write!(f, "{byte:02x}")?;
-    }
-    Ok(())
-}
-
-fn slot_number(slot: Slot) -> u8 {
-    match slot {
-        Slot::First => 1,
-        Slot::Second => 2,
+impl fmt::Display for CallWord {
+    fn fmt<W: fmt::Write>(&self, f: &mut fmt::Formatter<W>) -> fmt::Result {
+        f.write_str(match self.0 {
+            BlobCall::Read => "read",
+            BlobCall::Write => "write",
+            BlobCall::Resize => "resize",
+            BlobCall::Settle => "settle",
+        })
     }
 }
 
-fn call_word(call: BlobCall) -> &'static str {
-    match call {
-        BlobCall::Read => "read",
-        BlobCall::Write => "write",
-        BlobCall::Resize => "resize",
-        BlobCall::Settle => "settle",
+// Bytes as two digits each; a dash stands for none.
+#[derive(Clone, Copy)]
+struct Hex<'a>(&'a [u8]);
+
+impl fmt::Display for Hex<'_> {
+    fn fmt<W: fmt::Write>(&self, f: &mut fmt::Formatter<W>) -> fmt::Result {
+        if self.0.is_empty() {
+            return f.write_str("-");
+        }
+        for byte in self.0 {
+            write!(f, "{byte:02x}")?;
+        }
+        Ok(())
     }
 }

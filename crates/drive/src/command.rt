@@ -2,14 +2,8 @@
 mod parse;
 mod words;
 
+use crate::any_check::AnyCheck;
 pub(crate) use parse::parse;
-
-// Which check the later calls go by.
-#[derive(Clone, Copy)]
-pub enum AnyCheck {
-    Crc,
-    Sum,
-}
 
 // How a blob is made.
 #[derive(Drop)]
@@ -26,23 +20,24 @@ pub enum BlobPlan {
     },
 }
 
+// How the blob is opened.
+#[derive(Clone, Copy)]
+pub struct Opening {
+    pub page_size: u16,
+    pub wish: usize,
+    // The size told; none for the blob's own.
+    pub size: Option<u64>,
+}
+
 // A call that gives a line of the output.
 #[derive(Drop)]
 pub enum Call {
-    Open {
-        page_size: u16,
-        wish: usize,
-        // The size told; none for the blob's own.
-        size: Option<u64>,
-    },
+    Open(Opening),
     Append(Vec<u8>),
     Sync,
     Truncate(u64),
     Handover,
-    Page {
-        page_size: u16,
-        page: u64,
-    },
+    Page { page_size: u16, page: u64 },
     Restart,
 }
 
@@ -50,7 +45,7 @@ impl Call {
     // The command's word.
     pub(crate) fn word(&self) -> &'static str {
         match self {
-            Call::Open { .. } => "open",
+            Call::Open(_) => "open",
             Call::Append(_) => "append",
             Call::Sync => "sync",
             Call::Truncate(_) => "truncate",
@@ -64,8 +59,6 @@ impl Call {
 // What a line of a script asks for.
 #[derive(Drop)]
 pub enum Command {
-    // Nothing: a blank line or a comment.
-    Skip,
     Check(AnyCheck),
     Blob(BlobPlan),
     Bytes(Vec<u8>),

@@ -1,13 +1,11 @@
 // A writer with its buffers, and the calls on it, over any blob and any check.
-ghost use Rattle.std.specs.Prelude.{◌≡◌, IfOk, vec_len};
-ghost use Rattle.drive.specs.declared.handle.Handle.TheVariants.{Nobody};
+ghost use Rattle.std.specs.Prelude.{◌≡◌, IfOk, None, vec_len};
 ghost use Rattle.drive.specs.declared.answer.Answer.TheVariants.{NoWriter};
 ghost use Rattle.drive.specs.Rooms.{tip_room};
-ghost use Rattle.drive.specs.Turns.{handle_after_opening, refusal_answer};
+ghost use Rattle.drive.specs.Turns.{refusal_answer, writer_after, writer_after_opening};
 
 use crate::answer::Answer;
-use crate::command::Call;
-use crate::handle::{Handle, after_append, after_sync};
+use crate::command::{Call, Opening};
 use crate::problem::Problem;
 use blob::Blob;
 use checks::Check;
@@ -21,21 +19,24 @@ const LARGEST_WISH: usize = 1_048_576;
 
 #[derive(Drop)]
 pub struct Desk {
-    handle: Handle,
+    heap: Global,
+    writer: Option<Recovery>,
     tip: Vec<u8>,
     page: Vec<u8>,
 }
 
-// How many bytes the tip buffer has for an opening: as few as it takes, and one where the opening is refused anyway.
-fn tip_room(page_size: u16, wish: usize) -> usize
-    ensures { result ≡ tip_room page_size wish }
-{
-    if page_size == 0 || wish > LARGEST_WISH {
-        return 1;
+impl Opening {
+    // How many bytes the tip buffer has: as few as the opening takes, and one where it is refused anyway.
+    fn tip_room(&self) -> usize
+        ensures { result ≡ tip_room self.now.page_size self.now.wish }
+    {
+        if self.page_size == 0 || self.wish > LARGEST_WISH {
+            return 1;
+        }
+        let p = self.page_size as usize;
+        let capacity = ((self.wish + p - 1) / p * p).max(2 * p);
+        capacity + p - 1
     }
-    let p = page_size as usize;
-    let capacity = ((wish + p - 1) / p * p).max(2 * p);
-    capacity + p - 1
 }
 
 fn zeros(heap: Global, n: usize) -> Result<Vec<u8>, AllocError>
@@ -47,7 +48,8 @@ fn zeros(heap: Global, n: usize) -> Result<Vec<u8>, AllocError>
 impl Desk {
     pub(crate) fn new(heap: Global) -> Desk {
         Desk {
-            handle: Handle::Nobody,
+            heap,
+            writer: None,
             tip: Vec::new(heap),
             page: Vec::new(heap),
         }
@@ -55,33 +57,25 @@ impl Desk {
 
     // Ends the writer.
     pub(crate) fn leave(&mut self)
-        ensures { self.new.handle ≡ Nobody }
+        ensures { self.new.writer ≡ None }
     {
-        self.handle = Handle::Nobody;
+        self.writer = None;
     }
 
     // Carries out a call.
     pub(crate) fn call<B: Blob, C: Check>(
         &mut self,
-        heap: Global,
         blob: &mut B,
         check: &C,
         call: &Call,
     ) -> Result<Answer, Problem> {
         match call {
-            Call::Open {
-                page_size,
-                wish,
-                size,
-            } => {
-                let told = size.unwrap_or(blob.size());
-                self.open(heap, blob, check, *page_size, *wish, told)
-            }
+            Call::Open(opening) => self.open(blob, check, opening),
             Call::Append(bytes) => Ok(self.append(blob, check, bytes.as_slice())),
             Call::Sync => Ok(self.sync(blob, check)),
             Call::Truncate(_) => Err(Problem::NoTruncate),
             Call::Handover => Err(Problem::NoHandover),
-            Call::Page { page_size, page } => read(heap, blob, check, *page_size, *page),
+            Call::Page { page_size, page } => read(self.heap, blob, check, *page_size, *page),
             Call::Restart => {
                 blob.restart();
                 self.leave();
@@ -93,16 +87,23 @@ impl Desk {
     // Opens the blob, with buffers that are just long enough. Refused from the input it leaves the writer that there is.
     fn open<B: Blob, C: Check>(
         &mut self,
-        heap: Global,
         blob: &mut B,
         check: &C,
-        page_size: u16,
-        wish: usize,
-        told: u64,
+        opening: &Opening,
     ) -> Result<Answer, Problem> {
-        let mut tip = zeros(heap, tip_room(page_size, wish))?;
-        let mut page = zeros(heap, page_size as usize + 12)?;
-        match Recovery::open(blob, check, page_size, wish, told, &mut tip, &mut page) {
+        let page_size = opening.page_size;
+        let told = opening.size.unwrap_or(blob.size());
+        let mut tip = zeros(self.heap, opening.tip_room())?;
+        let mut page = zeros(self.heap, page_size as usize + 12)?;
+        match Recovery::open(
+            blob,
+            check,
+            page_size,
+            opening.wish,
+            told,
+            &mut tip,
+            &mut page,
+        ) {
             Ok(w) => Ok(self.seat(w, tip, page)),
             Err(refusal) => Ok(self.not_opened(refusal)),
         }
@@ -111,7 +112,7 @@ impl Desk {
     // Goes on with a new writer and its buffers.
     fn seat(&mut self, w: Recovery, tip: Vec<u8>, page: Vec<u8>) -> Answer {
         let size = w.size();
-        self.handle = Handle::Recovering(w);
+        self.writer = Some(w);
         self.tip = tip;
         self.page = page;
         Answer::Size(size)
@@ -119,48 +120,69 @@ impl Desk {
 
     // An opening was refused. By the state, that ends the writer.
     fn not_opened(&mut self, refusal: Refusal<()>) -> Answer
-        ensures handle { self.new.handle ≡ handle_after_opening refusal self.old.handle }
+        ensures writer { self.new.writer ≡ writer_after_opening refusal self.old.writer }
         ensures answer { result ≡ refusal_answer refusal }
     {
-        match refusal {
-            Refusal::Input((), why) => Answer::Refused(why),
-            Refusal::State(why) => {
-                self.leave();
-                Answer::Stopped(why)
-            }
+        if let Refusal::State(_) = refusal {
+            self.leave();
         }
-    }
-
-    // Takes the writer, and leaves none.
-    fn take(&mut self) -> Handle
-        ensures taken { result ≡ self.old.handle }
-        ensures left { self.new.handle ≡ Nobody }
-    {
-        std::mem::replace(&mut self.handle, Handle::Nobody)
+        refusal.into()
     }
 
     fn append<B: Blob, C: Check>(&mut self, blob: &mut B, check: &C, bytes: &[u8]) -> Answer
-        ensures { self.old.handle ≡ Nobody → result ≡ NoWriter }
+        ensures { self.old.writer ≡ None → result ≡ NoWriter }
     {
-        let Handle::Recovering(w) = self.take() else {
-            return Answer::NoWriter;
-        };
-        let result = w.append(blob, check, &mut self.tip, &mut self.page, bytes);
-        let (handle, answer) = after_append(result);
-        self.handle = handle;
-        answer
+        self.by_writer(|w, tip, page| {
+            let (w, offset) = w.append(blob, check, tip, page, bytes)?;
+            let size = w.size();
+            Ok((w, Answer::Appended { offset, size }))
+        })
     }
 
     fn sync<B: Blob, C: Check>(&mut self, blob: &mut B, check: &C) -> Answer
-        ensures { self.old.handle ≡ Nobody → result ≡ NoWriter }
+        ensures { self.old.writer ≡ None → result ≡ NoWriter }
     {
-        let Handle::Recovering(w) = self.take() else {
+        self.by_writer(|w, tip, page| {
+            let w = w.sync(blob, check, tip, page)?;
+            let size = w.size();
+            Ok((w, Answer::Size(size)))
+        })
+    }
+
+    // Hands the writer and its buffers to a call, and keeps the writer that the call gives back. Without a writer nothing is called.
+    fn by_writer<F>(&mut self, call: F) -> Answer
+    where
+        F: FnOnce(Recovery, &mut [u8], &mut [u8]) -> Result<(Recovery, Answer), Refusal<Recovery>>,
+        requires { F.IsAlwaysCallable call }
+        ensures { self.old.writer ≡ None → result ≡ NoWriter }
+    {
+        let Some(w) = self.writer.take() else {
             return Answer::NoWriter;
         };
-        let result = w.sync(blob, check, &mut self.tip, &mut self.page);
-        let (handle, answer) = after_sync(result);
-        self.handle = handle;
-        answer
+        match call(w, &mut self.tip, &mut self.page) {
+            Ok((w, answer)) => {
+                self.writer = Some(w);
+                answer
+            }
+            Err(refusal) => self.refused(refusal),
+        }
+    }
+
+    // A call on the writer was refused. From the input, that gives the writer back; by the state, that ends it.
+    fn refused(&mut self, refusal: Refusal<Recovery>) -> Answer
+        ensures writer { self.new.writer ≡ writer_after refusal }
+        ensures answer { result ≡ refusal_answer refusal }
+    {
+        match refusal {
+            Refusal::Input(w, why) => {
+                self.writer = Some(w);
+                Answer::Refused(why)
+            }
+            Refusal::State(why) => {
+                self.writer = None;
+                Answer::Stopped(why)
+            }
+        }
     }
 }
 
@@ -175,8 +197,7 @@ fn read<B: Blob, C: Check>(
     let mut buf = zeros(heap, page_size as usize + 12)?;
     match read_page(blob, check, page_size, page, &mut buf) {
         Ok(active) => covered(heap, check, page_size, active, buf.as_slice()),
-        Err(Refusal::Input((), refusal)) => Ok(Answer::Refused(refusal)),
-        Err(Refusal::State(refusal)) => Ok(Answer::Stopped(refusal)),
+        Err(refusal) => Ok(refusal.into()),
     }
 }
 

@@ -2,9 +2,9 @@
 #![tactic(auto)]
 
 mod answer;
+mod any_check;
 mod command;
 mod desk;
-mod handle;
 mod problem;
 mod session;
 
@@ -13,6 +13,7 @@ use crate::command::Command;
 use crate::problem::{Malformed, Problem};
 use crate::session::Session;
 use std::alloc::Global;
+use std::fmt;
 use std::io::{BufRead, BufReader};
 
 // What a call came to, under its word.
@@ -22,58 +23,45 @@ struct Done {
     answer: Answer,
 }
 
-// Carries out a line. Only a call answers.
-fn carry_out(heap: Global, session: &mut Session, line: &str) -> Result<Option<Done>, Problem> {
-    match command::parse(heap, line)? {
-        Command::Skip => Ok(None),
-        Command::Check(check) => {
-            session.choose(check);
-            Ok(None)
-        }
-        Command::Blob(plan) => {
-            session.start(plan)?;
-            Ok(None)
-        }
-        Command::Bytes(bytes) => {
-            session.fill(bytes.as_slice())?;
-            Ok(None)
-        }
-        Command::Call(call) => {
-            let answer = session.call(&call)?;
-            Ok(Some(Done {
-                word: call.word(),
-                answer,
-            }))
-        }
+impl fmt::Display for Done {
+    fn fmt<W: fmt::Write>(&self, f: &mut fmt::Formatter<W>) -> fmt::Result {
+        write!(f, "{} {}", self.word, self.answer)
     }
 }
 
-// Prints the line of a call, with what the blob shows after it.
-fn show(rt: &HostRuntime, n: u64, done: &Done, session: &Session) -> anyhow::Result<()> {
-    let look = session.look();
-    let word = done.word;
-    let answer = &done.answer;
-    let len = look.len;
-    let crc = look.crc;
-    println!(rt; "{n} {word} {answer} | {len} {crc:08x}")?;
-    Ok(())
+// Carries out a line. Only a call answers.
+fn carry_out(heap: Global, session: &mut Session, line: &str) -> Result<Option<Done>, Problem> {
+    let Some(command) = command::parse(heap, line)? else {
+        return Ok(None);
+    };
+    match command {
+        Command::Check(check) => session.choose(check),
+        Command::Blob(plan) => session.start(plan)?,
+        Command::Bytes(bytes) => session.fill(bytes.as_slice())?,
+        Command::Call(call) => {
+            let answer = session.call(&call)?;
+            let word = call.word();
+            return Ok(Some(Done { word, answer }));
+        }
+    }
+    Ok(None)
 }
 
+// Prints a line for each call, with what the blob shows after it.
 fn run(rt: &HostRuntime) -> anyhow::Result<()> {
     let heap = rt.alloc();
     let mut session = Session::new(heap);
-    let mut line: u64 = 0;
+    // Only some lines are calls, so these have a count of their own.
     let mut calls: u64 = 0;
-    for text in BufReader::new(heap, rt.stdin())?.lines(heap) {
-        line = line.saturating_add(1);
+    for (line, text) in (1u64..).zip(BufReader::new(heap, rt.stdin())?.lines(heap)) {
         let text = text?;
-        match carry_out(heap, &mut session, text.as_str()) {
-            Ok(Some(done)) => {
-                calls = calls.saturating_add(1);
-                show(rt, calls, &done, &session)?;
-            }
-            Ok(None) => {}
-            Err(problem) => return Err(Malformed { line, problem }.into()),
+        let done = carry_out(heap, &mut session, text.as_str()).map_err(|problem| Malformed {
+            line,
+            problem,
+        })?;
+        if let Some(done) = done {
+            calls = calls.saturating_add(1);
+            println!(rt; "{calls} {done} | {}", session.look())?;
         }
     }
     Ok(())

@@ -3,18 +3,18 @@ ghost use Rattle.std.specs.Prelude.{◌≡◌, length};
 ghost use Rattle.checks.specs.Crc.{crc32c};
 
 use crate::answer::Answer;
-use crate::command::{AnyCheck, BlobPlan, Call};
+use crate::any_check::AnyCheck;
+use crate::command::{BlobPlan, Call};
 use crate::desk::Desk;
 use crate::problem::Problem;
-use blob::Blob;
-use checks::{Check, Crc32c, OlderSum};
+use checks::{Check, Crc32c};
 use kinds::{MakeError, SettleLater, WriteThrough};
 use std::alloc::Global;
+use std::fmt;
 
 // The blob, of the kind that it is.
 #[derive(Drop)]
 enum AnyBlob {
-    Unmade,
     Through(WriteThrough),
     Later(SettleLater),
 }
@@ -23,7 +23,7 @@ enum AnyBlob {
 pub struct Session {
     heap: Global,
     check: AnyCheck,
-    blob: AnyBlob,
+    blob: Option<AnyBlob>,
     // How the blob was made, while no other line came.
     plan: Option<BlobPlan>,
     desk: Desk,
@@ -32,8 +32,14 @@ pub struct Session {
 // What the blob shows: its length and the CRC-32C of its bytes.
 #[derive(Clone, Copy)]
 pub struct Look {
-    pub len: usize,
-    pub crc: u32,
+    len: usize,
+    crc: u32,
+}
+
+impl fmt::Display for Look {
+    fn fmt<W: fmt::Write>(&self, f: &mut fmt::Formatter<W>) -> fmt::Result {
+        write!(f, "{} {:08x}", self.len, self.crc)
+    }
 }
 
 // A blob that shows these bytes, settled.
@@ -56,20 +62,6 @@ fn make(heap: Global, plan: &BlobPlan, bytes: &[u8]) -> Result<AnyBlob, MakeErro
     }
 }
 
-// Carries out a call by the check.
-fn call_by<B: Blob>(
-    desk: &mut Desk,
-    heap: Global,
-    blob: &mut B,
-    check: AnyCheck,
-    call: &Call,
-) -> Result<Answer, Problem> {
-    match check {
-        AnyCheck::Crc => desk.call(heap, blob, &Crc32c, call),
-        AnyCheck::Sum => desk.call(heap, blob, &OlderSum, call),
-    }
-}
-
 fn look_at(bytes: &[u8]) -> Look
     ensures len { result.len ≡ length bytes.now }
     ensures crc { result.crc ≡ crc32c bytes.now }
@@ -85,7 +77,7 @@ impl Session {
         Session {
             heap,
             check: AnyCheck::Crc,
-            blob: AnyBlob::Unmade,
+            blob: None,
             plan: None,
             desk: Desk::new(heap),
         }
@@ -99,7 +91,7 @@ impl Session {
 
     // Starts anew, with an empty blob and no writer.
     pub(crate) fn start(&mut self, plan: BlobPlan) -> Result<(), Problem> {
-        self.blob = make(self.heap, &plan, &[])?;
+        self.blob = Some(make(self.heap, &plan, &[])?);
         self.plan = Some(plan);
         self.desk.leave();
         Ok(())
@@ -107,28 +99,26 @@ impl Session {
 
     // Gives the new blob its contents.
     pub(crate) fn fill(&mut self, bytes: &[u8]) -> Result<(), Problem> {
-        let Some(plan) = self.plan.take() else {
-            return Err(Problem::BlobNotNew);
-        };
-        self.blob = make(self.heap, &plan, bytes)?;
+        let plan = self.plan.take().ok_or(Problem::BlobNotNew)?;
+        self.blob = Some(make(self.heap, &plan, bytes)?);
         Ok(())
     }
 
     pub(crate) fn call(&mut self, call: &Call) -> Result<Answer, Problem> {
         self.plan = None;
-        match &mut self.blob {
-            AnyBlob::Unmade => Err(Problem::NoBlob),
-            AnyBlob::Through(blob) => call_by(&mut self.desk, self.heap, blob, self.check, call),
-            AnyBlob::Later(blob) => call_by(&mut self.desk, self.heap, blob, self.check, call),
+        // One arm for each kind: an `impl Blob for AnyBlob` would have them in each of its seven functions.
+        match self.blob.as_mut().ok_or(Problem::NoBlob)? {
+            AnyBlob::Through(blob) => self.desk.call(blob, &self.check, call),
+            AnyBlob::Later(blob) => self.desk.call(blob, &self.check, call),
         }
     }
 
     // What the blob shows, with power or without.
     pub(crate) fn look(&self) -> Look {
         match &self.blob {
-            AnyBlob::Unmade => look_at(&[]),
-            AnyBlob::Through(blob) => look_at(blob.shown()),
-            AnyBlob::Later(blob) => look_at(blob.shown()),
+            None => look_at(&[]),
+            Some(AnyBlob::Through(blob)) => look_at(blob.shown()),
+            Some(AnyBlob::Later(blob)) => look_at(blob.shown()),
         }
     }
 }

@@ -2,7 +2,8 @@
 #![tactic(auto)]
 
 use anyhow::anyhow;
-use checks::{Check, Crc32c, OlderSum, known_numbers};
+use checks::{Check, Crc32c, KnownNumbers, OlderSum, known_numbers};
+use std::array;
 
 // A command of iSCSI, as it is transmitted: SCSI Read (10).
 const READ_COMMAND: [u8; 48] = [
@@ -11,90 +12,100 @@ const READ_COMMAND: [u8; 48] = [
     0x28, 0x00, 0x00, 0x00, 0x00, 0x00, 0x00, 0x00, 0x02, 0x00, 0x00, 0x00, 0x00, 0x00, 0x00, 0x00,
 ];
 
+// The bytes from 00 to 1f.
 fn ascending() -> [u8; 32] {
-    let mut bytes = [0; 32];
-    for i in 0..32u8 {
-        bytes[i as usize] = i;
-    }
-    bytes
+    array::from_fn(|i| i as u8)
 }
 
 fn descending() -> [u8; 32] {
-    let mut bytes = [0; 32];
-    for i in 0..32u8 {
-        bytes[i as usize] = 31 - i;
-    }
+    let mut bytes = ascending();
+    bytes.reverse();
     bytes
 }
 
-// Prints the check of `bytes`, and whether it is `expected`.
-fn held(
-    rt: &impl Print,
-    check: &impl Check,
-    name: &str,
-    bytes: &[u8],
+// A string, and the number that it should have.
+#[derive(Clone, Copy)]
+struct Vector<'a> {
+    name: &'static str,
+    bytes: &'a [u8],
     expected: u32,
-) -> anyhow::Result<bool> {
-    let computed = check.checksum(bytes);
-    let verdict = if computed == expected { "ok" } else { "WRONG" };
-    println!(rt; "{name}: {computed:#010x} {verdict}")?;
-    Ok(computed == expected)
+}
+
+// Prints the check of each string, and whether it is the expected one. Answers whether all are.
+fn held(rt: &impl Print, check: &impl Check, vectors: &[Vector]) -> anyhow::Result<bool> {
+    let mut all = true;
+    for v in vectors {
+        let computed = check.checksum(v.bytes);
+        let holds = computed == v.expected;
+        let verdict = if holds { "ok" } else { "WRONG" };
+        println!(rt; "{}: {computed:#010x} {verdict}", v.name)?;
+        all &= holds;
+    }
+    Ok(all)
+}
+
+fn crc_held(rt: &impl Print, known: KnownNumbers) -> anyhow::Result<bool> {
+    let vectors = [
+        Vector {
+            name: "CRC-32C of 32 bytes 00",
+            bytes: &[0x00; 32],
+            expected: 0x8a91_36aa,
+        },
+        Vector {
+            name: "CRC-32C of 32 bytes ff",
+            bytes: &[0xff; 32],
+            expected: 0x62a8_ab43,
+        },
+        Vector {
+            name: "CRC-32C of 32 bytes ascending",
+            bytes: &ascending(),
+            expected: 0x46dd_794e,
+        },
+        Vector {
+            name: "CRC-32C of 32 bytes descending",
+            bytes: &descending(),
+            expected: 0x113f_db5c,
+        },
+        Vector {
+            name: "CRC-32C of a read command",
+            bytes: &READ_COMMAND,
+            expected: 0xd996_3a56,
+        },
+        Vector {
+            name: "CRC-32C of the digits 1 to 9",
+            bytes: b"123456789",
+            expected: known.digits,
+        },
+    ];
+    held(rt, &Crc32c, &vectors)
+}
+
+fn sums_held(rt: &impl Print, known: KnownNumbers) -> anyhow::Result<bool> {
+    let vectors = [
+        Vector {
+            name: "older sum of 1 2",
+            bytes: &[1, 2],
+            expected: known.two,
+        },
+        Vector {
+            name: "older sum of 1 2 3",
+            bytes: &[1, 2, 3],
+            expected: known.three,
+        },
+        Vector {
+            name: "older sum of 1 2 3 4",
+            bytes: &[1, 2, 3, 4],
+            expected: known.four,
+        },
+    ];
+    held(rt, &OlderSum, &vectors)
 }
 
 fn run(rt: &impl Print) -> anyhow::Result<()> {
     let known = known_numbers();
-    let mut all = held(
-        rt,
-        &Crc32c,
-        "CRC-32C of 32 bytes 00",
-        &[0x00; 32],
-        0x8a91_36aa,
-    )?;
-    all &= held(
-        rt,
-        &Crc32c,
-        "CRC-32C of 32 bytes ff",
-        &[0xff; 32],
-        0x62a8_ab43,
-    )?;
-    all &= held(
-        rt,
-        &Crc32c,
-        "CRC-32C of 32 bytes ascending",
-        &ascending(),
-        0x46dd_794e,
-    )?;
-    all &= held(
-        rt,
-        &Crc32c,
-        "CRC-32C of 32 bytes descending",
-        &descending(),
-        0x113f_db5c,
-    )?;
-    all &= held(
-        rt,
-        &Crc32c,
-        "CRC-32C of a read command",
-        &READ_COMMAND,
-        0xd996_3a56,
-    )?;
-    all &= held(
-        rt,
-        &Crc32c,
-        "CRC-32C of the digits 1 to 9",
-        b"123456789",
-        known.digits,
-    )?;
-    all &= held(rt, &OlderSum, "older sum of 1 2", &[1, 2], known.two)?;
-    all &= held(rt, &OlderSum, "older sum of 1 2 3", &[1, 2, 3], known.three)?;
-    all &= held(
-        rt,
-        &OlderSum,
-        "older sum of 1 2 3 4",
-        &[1, 2, 3, 4],
-        known.four,
-    )?;
-    if all {
+    let crc = crc_held(rt, known)?;
+    let sums = sums_held(rt, known)?;
+    if crc && sums {
         Ok(())
     } else {
         Err(anyhow!("a check is wrong"))

@@ -26,10 +26,7 @@ impl<'a> Words<'a> {
 
     // The next word.
     pub(crate) fn word(&mut self) -> Result<&'a str, Problem> {
-        match self.rest.next() {
-            Some(word) => Ok(word),
-            None => Err(Problem::TooFewWords),
-        }
+        self.rest.next().ok_or(Problem::TooFewWords)
     }
 
     pub(crate) fn number(&mut self) -> Result<u64, Problem> {
@@ -38,10 +35,7 @@ impl<'a> Words<'a> {
 
     // A number that a page size may be.
     pub(crate) fn page_size(&mut self) -> Result<u16, Problem> {
-        match u16::try_from(self.number()?) {
-            Ok(n) => Ok(n),
-            Err(_) => Err(Problem::NotANumber),
-        }
+        u16::try_from(self.number()?).map_err(|_| Problem::NotANumber)
     }
 
     // A number, or none where the word is this one.
@@ -72,10 +66,7 @@ fn decimal(word: &str) -> Result<u64, Problem> {
     if word.starts_with('+') {
         return Err(Problem::NotANumber);
     }
-    match word.parse::<u64>() {
-        Ok(n) => Ok(n),
-        Err(_) => Err(Problem::NotANumber),
-    }
+    word.parse().map_err(|_| Problem::NotANumber)
 }
 
 // What a digit of lowercase hex stands for.
@@ -104,7 +95,7 @@ fn byte(pair: &[u8]) -> Result<u8, Problem>
     Ok(h * 16 + l)
 }
 
-// The bytes of digits, two for each.
+// The bytes of digits, two for each. The kit's crate `hex` would take capital letters too.
 fn hex_pairs(heap: Global, digits: &[u8]) -> Result<Vec<u8>, Problem>
     ensures { IfOk result (λ v. hex_of v.items ≡ digits.now) }
 {
