@@ -12,10 +12,7 @@ use checks::Check;
 use page::{ActiveChecksum, Verdict};
 use paged::{Refusal, page_verdict, read_page};
 use std::alloc::{AllocError, Global};
-use writer::Recovery;
-
-// The largest wish for capacity that an opening takes.
-const LARGEST_WISH: usize = 1_048_576;
+use writer::{Recovery, tip_asked};
 
 #[derive(Drop)]
 pub struct Desk {
@@ -30,12 +27,7 @@ impl Opening {
     fn tip_room(&self) -> usize
         ensures { result ≡ tip_room self.now.page_size self.now.wish }
     {
-        if self.page_size == 0 || self.wish > LARGEST_WISH {
-            return 1;
-        }
-        let p = self.page_size as usize;
-        let capacity = ((self.wish + p - 1) / p * p).max(2 * p);
-        capacity + p - 1
+        tip_asked(self.page_size, self.wish).unwrap_or(1)
     }
 }
 
