@@ -2,7 +2,7 @@
 use Rattle.std.proofs.Common.{◌≡◌, ℕ, ◌+◌, ◌<◌, eqb, List, length, get_or, take, sym, ap, ◌∙◌}
 use Rattle.std.proofs.lemmas.List.Sums.{count_by_more_yes, count_by_more_no}
 use Rattle.std.proofs.lemmas.Bool.{eq-eqb, ne_eqb}
-use Rattle.isolator.specs.declared.lift.Lift.{Lift}
+use Rattle.lifts.specs.declared.lift.Lift.{Lift}
 use Rattle.isolator.specs.Bands.{band_of, in_band}
 
 -- the next lift falls into the band

@@ -1,5 +1,3 @@
-mod Lifts
-mod Pages
 mod Trials
 mod Counts
 mod Turning

@@ -3,7 +3,7 @@ ghost use Rattle.std.specs.Prelude.{◌≡◌, ◌≤◌, length};
 ghost use Rattle.isolator.specs.Bands.{band_of, in_band};
 
 use crate::life::Bar;
-use crate::lift::Lift;
+use lifts::Lift;
 use std::fmt;
 
 // How many kilograms wide a band is.
