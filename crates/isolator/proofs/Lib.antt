@@ -1,3 +1,2 @@
 mod Trials
-mod Counts
 mod Turning

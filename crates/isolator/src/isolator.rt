@@ -98,7 +98,7 @@ pub(crate) fn turn_everywhere(
 ) -> Result<Count, TrialError>
     ensures { IfOk result (λ c. TurnedEverywhere pattern.now shift.now c) }
 {
-    let mut count = Count::NONE;
+    let mut count = Count::default();
     for cut in 0..TURNS {
         match turn_at(heap, cut, pattern, shift)? {
             Some(outcome) => count = count.with(outcome),

@@ -12,8 +12,7 @@ use std::fmt;
 fn add_strain(sum: u64, more: u128) -> u64
     ensures { result ≡ capped sum more }
 {
-    let most = u64::MAX as u128;
-    (sum as u128 + more.min(most)).min(most) as u64
+    sum.saturating_add(u64::try_from(more).unwrap_or(u64::MAX))
 }
 
 // The sums stop at the largest number of 64 bits.
