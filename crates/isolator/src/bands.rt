@@ -1,5 +1,5 @@
 // The lifts by their load, as a picture.
-ghost use Rattle.std.specs.Prelude.{◌≡◌, ◌≤◌, length};
+ghost use Rattle.std.specs.Prelude.{◌≡◌};
 ghost use Rattle.isolator.specs.Bands.{band_of, in_band};
 
 use crate::life::Bar;
