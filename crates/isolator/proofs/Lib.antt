@@ -1,5 +1,2 @@
-mod Lifts
-mod Pages
 mod Trials
-mod Counts
 mod Turning

@@ -1,5 +1,5 @@
 -- Turning the isolator, step by step.
-use Rattle.std.proofs.Common.{◌≡◌, ℕ, ◌+◌, ◌-◌, ◌<◌, ◌≤◌, min, List, length, take, drop, Some, None, Option, sym, ap, ◌∙◌, subst, ⊎_elim, arith}
+use Rattle.std.proofs.Common.{◌≡◌, ℕ, ◌+◌, ◌-◌, ◌<◌, ◌≤◌, min, List, length, take, drop, Some, Option, sym, ap, ◌∙◌, subst, ⊎_elim, arith}
 use Rattle.std.proofs.lemmas.List.{drop_all, take_rest}
 use Rattle.std.proofs.lemmas.Bool.{cases_lt}
 use Rattle.blob.specs.Value.{BlobValue}
@@ -7,20 +7,20 @@ use Rattle.blob.specs.Calls.{Restarted}
 use Rattle.checks.specs.Crc.{crc32c}
 use Rattle.plan.specs.Open.{open_plan}
 use Rattle.writer.specs.Calls.{Done}
-use Rattle.isolator.specs.declared.lift.Lift.{Lift}
-use Rattle.isolator.specs.declared.session.Session.{Session}
-use Rattle.isolator.specs.declared.store.Pages.{Pages}
+use Rattle.lifts.specs.declared.lift.Lift.{Lift}
+use Rattle.lifts.specs.declared.session.Session.{Session}
+use Rattle.lifts.specs.declared.store.Pages.{Pages}
 use Rattle.isolator.specs.declared.trial.Count.{Count}
 use Rattle.isolator.specs.declared.trial.Outcome.{Outcome}
 use Rattle.isolator.specs.declared.trial.Progress.{Progress}
-use Rattle.isolator.specs.Pages.{Holds}
-use Rattle.isolator.specs.Records.{records}
+use Rattle.lifts.specs.Pages.{Holds}
+use Rattle.lifts.specs.Records.{records}
 use Rattle.isolator.specs.Trials.{Judged, worse_of, counted_in}
-use Rattle.isolator.specs.Turns.{Shows, WentOn, CameBack, Turned, Turns, more, TurnedEverywhere}
+use Rattle.isolator.specs.Turns.{Shows, WentOn, CameBack, Turned, Turns, more}
 
 -- reading back leaves the blob as the opening left it
-pub shows : (v m w : BlobValue) (s : Session) (ls : List Lift) (pages : Pages) → Done (open_plan crc32c 96 288 v.shown) 96 v s.tip s.log m
-    → Holds m.shown (records ls) pages → w ≡ m → Shows v ls w
+pub shows : (v m w : BlobValue) (s : Session) (ls : List Lift) (pages : Pages) → Done (open_plan crc32c 96 288 v.shown) 96 v s.tip.items s.log m
+    → Holds 96 m.shown (records ls) pages → w ≡ m → Shows v ls w
 shows v m w s ls pages d h e = subst (λ u. Shows v ls u) (sym e) (record { opened = s; opening = d; pages = pages; held = h })
 
 drop_min : (n : ℕ) (s : List Lift) → drop (min n (length s)) s ≡ drop n s
@@ -54,9 +54,3 @@ pub cut_more : (pattern : List ℕ) (shift : List Lift) (n : ℕ) (c d : Count) 
     → Turns pattern shift n c → Turned n pattern shift found → found ≡ Some o → d ≡ counted_in c o → Turns pattern shift (n + 1) d
 cut_more pattern shift n c d found o before here e f =
     subst (λ x. Turns pattern shift (n + 1) x) (sym f) (more before (subst (λ x. Turned n pattern shift x) e here))
-
--- the shift ends before this cut
-pub cut_end : (pattern : List ℕ) (shift : List Lift) (n : ℕ) (c : Count) (found : Option Outcome)
-    → Turns pattern shift n c → Turned n pattern shift found → found ≡ None → TurnedEverywhere pattern shift c
-cut_end pattern shift n c found before here e =
-    record { total = n; turns = before; through = subst (λ x. Turned n pattern shift x) e here }

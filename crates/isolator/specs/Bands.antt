@@ -1,6 +1,6 @@
 -- The lifts by their load.
 use Rattle.std.specs.Prelude.{ℕ, ◌/◌, min, List, count_by, nat_eq}
-use Rattle.isolator.specs.declared.lift.Lift.{Lift}
+use Rattle.lifts.specs.declared.lift.Lift.{Lift}
 
 -- the band of a load: 500 kg to a band, and the band 8 has all from 4000 kg on
 abbrev pub band_of : ℕ → ℕ

@@ -1,9 +1,6 @@
-pub mod Records
-pub mod Pages
 pub mod Summaries
 pub mod Sessions
 pub mod Trials
 pub mod Life
 pub mod Bands
-pub mod Errors
 pub mod Turns

@@ -1,7 +1,7 @@
 -- How much of its design life a hoist has used.
 use Rattle.std.specs.Prelude.{ℕ, ◌+◌, ◌*◌, ◌/◌, ◌%◌, ◌^◌, min}
 use Rattle.isolator.specs.declared.life.Use.{Use}
-use Rattle.isolator.specs.declared.lift.Lift.{Lift}
+use Rattle.lifts.specs.declared.lift.Lift.{Lift}
 
 -- what a lift strains the hoist: the cube of its load, times its hoisting time
 abbrev pub strain : Lift → ℕ

@@ -8,22 +8,22 @@ use Rattle.kinds.specs.Later.{later}
 use Rattle.kinds.specs.Cuts.{Planned}
 use Rattle.plan.specs.Open.{open_plan}
 use Rattle.writer.specs.Calls.{Done}
-use Rattle.isolator.specs.declared.lift.Lift.{Lift}
-use Rattle.isolator.specs.declared.session.Session.{Session}
-use Rattle.isolator.specs.declared.store.Pages.{Pages}
+use Rattle.lifts.specs.declared.lift.Lift.{Lift}
+use Rattle.lifts.specs.declared.session.Session.{Session}
+use Rattle.lifts.specs.declared.store.Pages.{Pages}
 use Rattle.isolator.specs.declared.trial.Count.{Count}
 use Rattle.isolator.specs.declared.trial.Outcome.{Outcome}
 use Rattle.isolator.specs.declared.trial.Progress.{Progress}
-use Rattle.isolator.specs.Pages.{Holds}
-use Rattle.isolator.specs.Records.{records}
+use Rattle.lifts.specs.Pages.{Holds}
+use Rattle.lifts.specs.Records.{records}
 use Rattle.isolator.specs.Trials.{Recorded, Judged, worse_of, no_cuts, counted_in}
 
 -- the log of the blob v was opened, which led to the blob w, and the pages of w cover the records of these lifts
 pub record Shows (v : BlobValue) (lifts : List Lift) (w : BlobValue) : Type 0 where
   pub opened : Session
-  pub opening : Done (open_plan crc32c 96 288 v.shown) 96 v opened.tip opened.log w
+  pub opening : Done (open_plan crc32c 96 288 v.shown) 96 v opened.tip.items opened.log w
   pub pages : Pages
-  pub held : Holds w.shown (records lifts) pages
+  pub held : Holds 96 w.shown (records lifts) pages
 
 -- the rest of a shift was recorded on a blob of these bytes, and its log then judged as that of the whole shift
 pub record WentOn (bytes : List ℕ) (rest shift : List Lift) (o : Outcome) : Type 0 where

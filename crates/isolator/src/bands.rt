@@ -1,9 +1,9 @@
 // The lifts by their load, as a picture.
-ghost use Rattle.std.specs.Prelude.{◌≡◌, ◌≤◌, length};
+ghost use Rattle.std.specs.Prelude.{◌≡◌};
 ghost use Rattle.isolator.specs.Bands.{band_of, in_band};
 
 use crate::life::Bar;
-use crate::lift::Lift;
+use lifts::Lift;
 use std::fmt;
 
 // How many kilograms wide a band is.
@@ -23,13 +23,10 @@ fn band(load: u32) -> u32
 fn lifts_in(lifts: &[Lift], wanted: u32) -> usize
     ensures { result ≡ in_band wanted lifts.now }
 {
-    let mut count = 0;
-    for lift in lifts {
-        if band(lift.load) == wanted {
-            count += 1;
-        }
-    }
-    count
+    lifts
+        .iter()
+        .filter(|lift| band(lift.load) == wanted)
+        .count()
 }
 
 // The picture of a list of lifts: a row for each band, with a sign for each lift.

@@ -1,152 +1,23 @@
-// What can go wrong in the lift log, each as a sentence.
-ghost use Rattle.std.specs.Prelude.{◌≡◌};
-ghost use Rattle.isolator.specs.Errors.{power_cut};
-
-use kinds::MakeError;
-use paged::{BlobCall, InputRefusal, Refusal, StateRefusal};
-use std::alloc::{AllocError, AllocFailed};
-use std::error::Error;
+// What can go wrong in a trial of the isolator, each as a sentence.
+use lifts::LogError;
 use std::fmt;
+use thiserror::Error;
 
-#[derive(Clone, Copy)]
-pub enum LogError {
-    NoMemory,
-    // The blob was not made.
-    NotMade(MakeError),
-    // A call of the log was refused.
-    Refused(Refusal<()>),
-    // What stands in the pages ends within a record.
-    CutRecord,
+#[derive(Clone, Copy, Error)]
+pub enum TrialError {
+    #[error(transparent)]
+    Log(#[from] LogError),
     // The shift did not end before the last turn of the isolator.
+    #[error("The shift writes more bytes than the isolator was turned for.")]
     NoEnd,
     // A power cut lost or doubled a lift.
+    #[error("A power cut lost or doubled a lift.")]
     NotKept,
 }
 
-impl LogError {
-    // Whether a call of the storage failed, as it does where the power is gone.
-    pub(crate) fn is_power_cut(self) -> bool
-        ensures { result ≡ power_cut self }
-    {
-        match self {
-            LogError::Refused(Refusal::State(StateRefusal::CallFailed(_, _))) => true,
-            _ => false,
-        }
-    }
-}
-
-impl fmt::Display for LogError {
-    fn fmt<W: fmt::Write>(&self, f: &mut fmt::Formatter<W>) -> fmt::Result {
-        match *self {
-            LogError::NoMemory => f.write_str("There is no memory left for the lift log."),
-            LogError::NotMade(why) => write!(f, "The log was not made: {}.", why_not_made(why)),
-            LogError::Refused(refusal) => {
-                let number = number_of(refusal);
-                write!(
-                    f,
-                    "The log was refused (number {number}): {}.",
-                    why_refused(refusal)
-                )
-            }
-            LogError::CutRecord => f.write_str("The last lift in the log is cut short."),
-            LogError::NoEnd => f.write_str(
-                "The shift writes more bytes than the isolator was turned for.",
-            ),
-            LogError::NotKept => f.write_str("A power cut lost or doubled a lift."),
-        }
-    }
-}
-
 // A `main` that fails prints this, so it is the sentence too.
-impl fmt::Debug for LogError {
+impl fmt::Debug for TrialError {
     fn fmt<W: fmt::Write>(&self, f: &mut fmt::Formatter<W>) -> fmt::Result {
         write!(f, "{self}")
-    }
-}
-
-impl Error for LogError {}
-
-fn why_not_made(why: MakeError) -> &'static str {
-    match why {
-        MakeError::CeilingTooHigh => "its ceiling is above 2^40 bytes",
-        MakeError::TooLong => "it begins with more bytes than its ceiling",
-        MakeError::NoMemory => "there is no memory left",
-    }
-}
-
-// The number in the list of refusals.
-fn number_of(refusal: Refusal<()>) -> u8 {
-    match refusal {
-        Refusal::Input((), input) => input.number(),
-        Refusal::State(state) => state.number(),
-    }
-}
-
-fn why_refused(refusal: Refusal<()>) -> &'static str {
-    match refusal {
-        Refusal::Input((), input) => why_input(input),
-        Refusal::State(state) => why_state(state),
-    }
-}
-
-fn why_input(refusal: InputRefusal) -> &'static str {
-    match refusal {
-        InputRefusal::PageSizeZero => "the page size is 0",
-        InputRefusal::CapacityTooLarge => "the wish for capacity is too large",
-        InputRefusal::TipBufferShort => "the tip buffer is too short",
-        InputRefusal::PageBufferShort => "the page buffer is too short",
-        InputRefusal::SizeMismatch => "the storage has another size than expected",
-        InputRefusal::PageOutOfRange => "the page's number is too large",
-    }
-}
-
-fn why_state(refusal: StateRefusal) -> &'static str {
-    match refusal {
-        StateRefusal::CeilingPassed => "the storage has no room for the lift",
-        StateRefusal::CallFailed(call, _) => why_failed(call),
-        StateRefusal::PageRejected => "none of the page's slots is valid",
-        StateRefusal::PagePastEnd => "the storage ends before the page does",
-    }
-}
-
-fn why_failed(call: BlobCall) -> &'static str {
-    match call {
-        BlobCall::Read => "the storage could not be read",
-        BlobCall::Write => "the storage could not be written",
-        BlobCall::Resize => "the storage could not be cut",
-        BlobCall::Settle => "the storage could not be settled",
-    }
-}
-
-impl From<AllocError> for LogError {
-    fn from(_error: AllocError) -> LogError {
-        LogError::NoMemory
-    }
-}
-
-impl<T: Drop> From<AllocFailed<T>> for LogError {
-    fn from(_error: AllocFailed<T>) -> LogError {
-        LogError::NoMemory
-    }
-}
-
-impl From<MakeError> for LogError {
-    fn from(error: MakeError) -> LogError {
-        LogError::NotMade(error)
-    }
-}
-
-impl From<InputRefusal> for LogError {
-    fn from(error: InputRefusal) -> LogError {
-        LogError::Refused(Refusal::Input((), error))
-    }
-}
-
-impl<W: Drop> From<Refusal<W>> for LogError {
-    fn from(error: Refusal<W>) -> LogError {
-        match error {
-            Refusal::Input(_, refusal) => LogError::Refused(Refusal::Input((), refusal)),
-            Refusal::State(refusal) => LogError::Refused(Refusal::State(refusal)),
-        }
     }
 }

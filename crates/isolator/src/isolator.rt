@@ -4,13 +4,13 @@ ghost use Rattle.kinds.specs.Later.{later};
 ghost use Rattle.kinds.specs.Cuts.{Planned};
 ghost use Rattle.isolator.specs.Turns.{Shows, WentOn, CameBack, Turned, TurnedEverywhere};
 
-use crate::error::LogError;
-use crate::lift::Lift;
-use crate::session::Session;
+use crate::error::TrialError;
+use crate::session::PAGE_SIZE;
 use crate::trial::{Count, Outcome, Progress};
-use crate::{store, trial};
+use crate::{session, trial};
 use blob::Blob;
 use kinds::SettleLater;
+use lifts::{Lift, LogError, read_back};
 use std::alloc::Global;
 
 // How many bytes the log may grow to.
@@ -42,8 +42,8 @@ fn steady_blob(heap: Global, bytes: &[u8]) -> Result<SettleLater, LogError>
 fn reopen<B: Blob>(heap: Global, blob: &mut B) -> Result<Vec<Lift>, LogError>
     ensures { IfOk result (λ ls. Shows (B.meaning blob.old) ls.items (B.meaning blob.new)) }
 {
-    let _ = Session::open(blob)?;
-    Ok(store::read_back(heap, blob)?.lifts)
+    let _ = session::open(heap, blob)?;
+    Ok(read_back(heap, blob, PAGE_SIZE)?.lifts)
 }
 
 // Records lifts behind those that stand in a log of these bytes, and judges it as the log of the whole shift.
@@ -51,7 +51,7 @@ fn go_on(heap: Global, bytes: &[u8], rest: &[Lift], shift: &[Lift]) -> Result<Ou
     ensures { IfOk result (λ o. WentOn bytes.now rest.now shift.now o) }
 {
     let mut blob = steady_blob(heap, bytes)?;
-    let _ = trial::record(&mut blob, rest)?;
+    let _ = trial::record(heap, &mut blob, rest)?;
     let lifts = reopen(heap, &mut blob)?;
     Ok(trial::judge(shift, &lifts, Progress::whole(shift)))
 }
@@ -83,7 +83,7 @@ fn turn_at(
     ensures { IfOk result (λ o. Turned cut pattern.now shift.now o) }
 {
     let mut blob = empty_blob(heap, Some(cut), pattern)?;
-    let progress = trial::record(&mut blob, shift)?;
+    let progress = trial::record(heap, &mut blob, shift)?;
     if progress.synced == shift.len() {
         return Ok(None);
     }
@@ -95,15 +95,15 @@ pub(crate) fn turn_everywhere(
     heap: Global,
     pattern: &[u8],
     shift: &[Lift],
-) -> Result<Count, LogError>
+) -> Result<Count, TrialError>
     ensures { IfOk result (λ c. TurnedEverywhere pattern.now shift.now c) }
 {
-    let mut count = Count::NONE;
+    let mut count = Count::default();
     for cut in 0..TURNS {
         match turn_at(heap, cut, pattern, shift)? {
             Some(outcome) => count = count.with(outcome),
             None => return Ok(count),
         }
     }
-    Err(LogError::NoEnd)
+    Err(TrialError::NoEnd)
 }

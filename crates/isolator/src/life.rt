@@ -3,8 +3,7 @@
 ghost use Rattle.std.specs.Prelude.{◌≡◌, ◌*◌};
 ghost use Rattle.isolator.specs.Life.{strain, use_of, columns_of};
 
-use crate::lift::Lift;
-use crate::time::Time;
+use lifts::{HoistingTime, Lift};
 use std::fmt;
 
 // The load that the hoist is built for, in kilograms.
@@ -67,7 +66,7 @@ impl Use {
 
 impl fmt::Display for Use {
     fn fmt<W: fmt::Write>(&self, f: &mut fmt::Formatter<W>) -> fmt::Result {
-        let time = Time::of(self.seconds);
+        let time = HoistingTime::of(self.seconds);
         let whole = self.share / 100;
         let rest = self.share % 100;
         let bar = Bar {

@@ -1,4 +1,4 @@
-use crate::lift::Lift;
+use lifts::Lift;
 
 // A lift without flags.
 fn lift(number: u32, start: u32, seconds: u32, load: u32, height: u32) -> Lift {

@@ -1,2 +1,0 @@
-mod Lifts
-mod Pages

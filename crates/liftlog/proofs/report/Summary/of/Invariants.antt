@@ -1,6 +1,0 @@
-use Rattle.std.proofs.Common.{◌≡◌, take}
-use Rattle.liftlog.specs.Summaries.{summary_of}
-use Rattle.liftlog.proofs.report.Summary.of.Given as goal
-
-abbrev pub invariant-loop-lift : goal.invariant-loop-lift
-invariant-loop-lift l = l.summary ≡ summary_of (take l.lift-index l.lifts)

@@ -1,0 +1,2 @@
+mod Lifts
+mod Joining

@@ -1,0 +1,5 @@
+pub mod Records
+pub mod Pages
+pub mod Sessions
+pub mod Summaries
+pub mod Errors
