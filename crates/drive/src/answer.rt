@@ -20,6 +20,7 @@ pub enum Answer {
     Stopped(StateRefusal),
 }
 
+// By hand: a derived one would not promise which answer it makes.
 impl From<Refusal<()>> for Answer {
     ghost from_gives = { λ refusal a. a ≡ refusal_answer refusal };
 

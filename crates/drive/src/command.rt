@@ -42,7 +42,7 @@ pub enum Call {
 }
 
 impl Call {
-    // The command's word.
+    // The command's word. Not Display, which would print what stands behind it too.
     pub(crate) fn word(&self) -> &'static str {
         match self {
             Call::Open(_) => "open",

@@ -61,6 +61,7 @@ impl Desk {
         check: &C,
         call: &Call,
     ) -> Result<Answer, Problem> {
+        // Which call comes is read from the script, so it is a value and no closure.
         match call {
             Call::Open(opening) => self.open(blob, check, opening),
             Call::Append(bytes) => Ok(self.append(blob, check, bytes.as_slice())),

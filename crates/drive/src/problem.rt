@@ -35,7 +35,7 @@ pub enum Problem {
     NoMemory(#[from(alloc)] AllocError),
 }
 
-// Why a blob is not made, in words.
+// Why a blob is not made, in a script's words.
 fn not_made(error: MakeError) -> &'static str {
     match error {
         MakeError::CeilingTooHigh => "the ceiling is above 2^40",

@@ -38,6 +38,7 @@ pub struct Bands<'a> {
 impl fmt::Display for Bands<'_> {
     fn fmt<W: fmt::Write>(&self, f: &mut fmt::Formatter<W>) -> fmt::Result {
         write!(f, "Lifts by load, in steps of {WIDTH} kg:")?;
+        // A band is its number alone.
         for k in 0..=LAST {
             let from = k * WIDTH;
             let count = lifts_in(self.lifts, k) as u64;

@@ -1,9 +1,8 @@
 // What can go wrong in a trial of the isolator, each as a sentence.
 use lifts::LogError;
-use std::fmt;
 use thiserror::Error;
 
-#[derive(Clone, Copy, Error)]
+#[derive(Clone, Copy, Debug, Error)]
 pub enum TrialError {
     #[error(transparent)]
     Log(#[from] LogError),
@@ -13,11 +12,4 @@ pub enum TrialError {
     // A power cut lost or doubled a lift.
     #[error("A power cut lost or doubled a lift.")]
     NotKept,
-}
-
-// A `main` that fails prints this, so it is the sentence too.
-impl fmt::Debug for TrialError {
-    fn fmt<W: fmt::Write>(&self, f: &mut fmt::Formatter<W>) -> fmt::Result {
-        write!(f, "{self}")
-    }
 }

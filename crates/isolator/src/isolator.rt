@@ -99,6 +99,7 @@ pub(crate) fn turn_everywhere(
     ensures { IfOk result (λ c. TurnedEverywhere pattern.now shift.now c) }
 {
     let mut count = Count::default();
+    // The cuts are numbers of bytes, so a range is what there is to go over.
     for cut in 0..TURNS {
         match turn_at(heap, cut, pattern, shift)? {
             Some(outcome) => count = count.with(outcome),

@@ -94,6 +94,7 @@ pub struct Bar {
 
 impl fmt::Display for Bar {
     fn fmt<W: fmt::Write>(&self, f: &mut fmt::Formatter<W>) -> fmt::Result {
+        // A column is its number alone.
         for k in 0..self.columns {
             f.write_str(if k < self.filled { "#" } else { "." })?;
         }

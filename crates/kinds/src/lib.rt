@@ -22,6 +22,7 @@ pub enum MakeError {
     NoMemory,
 }
 
+// By hand: a derived one would not promise which error it makes.
 impl From<AllocError> for MakeError {
     ghost from_gives = { λ _ e. e ≡ NoMemory };
 

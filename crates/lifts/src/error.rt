@@ -7,10 +7,9 @@ ghost use Rattle.paged.specs.declared.refusal.Refusal.TheVariants.{Input};
 use kinds::MakeError;
 use paged::{BlobCall, InputRefusal, Refusal, StateRefusal};
 use std::alloc::{AllocError, AllocFailed};
-use std::fmt;
 use thiserror::Error;
 
-#[derive(Clone, Copy, Error)]
+#[derive(Clone, Copy, Debug, Error)]
 pub enum LogError {
     #[error("There is no memory left for the lift log.")]
     NoMemory,
@@ -37,13 +36,7 @@ impl LogError {
     }
 }
 
-// A `main` that fails prints this, so it is the sentence too.
-impl fmt::Debug for LogError {
-    fn fmt<W: fmt::Write>(&self, f: &mut fmt::Formatter<W>) -> fmt::Result {
-        write!(f, "{self}")
-    }
-}
-
+// Not Display of what is told: these are the words of a lift log.
 fn why_not_made(why: MakeError) -> &'static str {
     match why {
         MakeError::CeilingTooHigh => "its ceiling is above 2^40 bytes",
@@ -96,6 +89,7 @@ fn why_failed(call: BlobCall) -> &'static str {
     }
 }
 
+// By hand, as the next: derived ones would not promise which error they make.
 impl From<AllocError> for LogError {
     ghost from_gives = { λ _ e. e ≡ NoMemory };
 

@@ -22,7 +22,7 @@ pub enum InputRefusal {
 }
 
 impl InputRefusal {
-    // The number in the list of refusals.
+    // The number in the list of refusals. A match, as for the other list, of which one case has values and so no number of its own.
     pub fn number(self) -> u8
         ensures { result ≡ input_number self }
     {
@@ -47,7 +47,7 @@ pub enum BlobCall {
 }
 
 impl BlobCall {
-    // What this call of a blob answered; a fault becomes the refusal that names the call and its offset.
+    // What this call of a blob answered; a fault becomes the refusal that names the call and its offset, which no `From` would know.
     pub fn answer<T>(self, offset: u64, answer: Result<T, Fault>) -> Result<T, StateRefusal>
         ensures { result ≡ answered self offset answer }
     {
@@ -92,6 +92,7 @@ pub enum Refusal<W> {
     State(StateRefusal),
 }
 
+// By hand, as the next: a derived one would not promise which refusal it makes.
 impl From<InputRefusal> for Refusal<()> {
     ghost from_gives = { λ refusal r. r ≡ Input tt refusal };
 

@@ -23,6 +23,7 @@ pub(crate) fn parse(heap: Global, line: &str) -> Result<Option<Command>, Problem
     Ok(Some(command))
 }
 
+// Not FromStr, as the next: it takes the words that follow, and the heap.
 fn parse_blob(heap: Global, words: &mut Words) -> Result<BlobPlan, Problem> {
     match words.word()? {
         "through" => Ok(BlobPlan::Through {

@@ -52,7 +52,7 @@ impl<'a> Words<'a> {
         hex(heap, self.word()?)
     }
 
-    // Holds that no word is left.
+    // Holds that no word is left. By a match, since here the word is what is wrong.
     pub(crate) fn end(&mut self) -> Result<(), Problem> {
         match self.rest.next() {
             None => Ok(()),
