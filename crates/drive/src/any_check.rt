@@ -1,4 +1,4 @@
-// The check that a script has chosen.
+// The check that a script has chosen: an enum and no `dyn Check`, to which no impl gives the bound.
 ghost use Rattle.drive.specs.Chosen;
 
 use crate::problem::Problem;

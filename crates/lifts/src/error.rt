@@ -2,7 +2,6 @@
 ghost use Rattle.std.specs.Prelude.{◌≡◌};
 ghost use Rattle.lifts.specs.Errors.{power_cut, as_log_error};
 ghost use Rattle.lifts.specs.declared.error.LogError.TheVariants.{NoMemory, Refused};
-ghost use Rattle.paged.specs.declared.refusal.Refusal.TheVariants.{Input};
 
 use kinds::MakeError;
 use paged::{BlobCall, InputRefusal, Refusal, StateRefusal};
@@ -103,14 +102,6 @@ impl<T: Drop> From<AllocFailed<T>> for LogError {
 
     fn from(_error: AllocFailed<T>) -> LogError {
         LogError::NoMemory
-    }
-}
-
-impl From<InputRefusal> for LogError {
-    ghost from_gives = { λ k e. e ≡ Refused (Input tt k) };
-
-    fn from(error: InputRefusal) -> LogError {
-        LogError::Refused(Refusal::Input((), error))
     }
 }
 
