@@ -12,11 +12,6 @@ BATCH_BYTES = 4_000_000
 TIME_LIMIT = 120
 
 
-# A call that a port may not have yet, and a script that asks for it.
-OPENED = ["blob through 100", "open 4 8 ="]
-MAY_LACK = {"truncate": "truncate 0", "handover": "handover"}
-
-
 def distinct(scripts, seen):
     """Those of the scripts that did not come before; `seen` has a mark for each that did."""
     for script in scripts:
@@ -72,22 +67,6 @@ def batches(scripts):
 
 def text_of(group):
     return "".join(line + "\n" for script in group for line in script).encode()
-
-
-def lacking(program):
-    """The calls of which a program says that they are not there yet."""
-    lacks = []
-    for word, line in MAY_LACK.items():
-        _, error = run_program(program, text_of([OPENED + [line]]))
-        if f"{word} is not there yet".encode() in error:
-            lacks.append(word)
-    return lacks
-
-
-def without(scripts, words):
-    """Scripts without the lines of these calls."""
-    for script in scripts:
-        yield [line for line in script if line.split(" ", 1)[0] not in words]
 
 
 class Difference:

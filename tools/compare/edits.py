@@ -1,7 +1,6 @@
 """Changed rules: small edits of the staged copy of the crate's files and of the stand-in blob.
 
 `old` is replaced where it first stands behind `after`. `idle` says why no script can notice a change; empty where one must.
-`needs` names the call without which no script can notice it.
 """
 
 from typing import NamedTuple
@@ -20,7 +19,6 @@ class Edit(NamedTuple):
     old: str
     new: str
     idle: str = ""
-    needs: str = ""
 
 
 EDITS = [
@@ -33,12 +31,12 @@ EDITS = [
     Edit("a slot may cover the footer", PAGED, "fn validate_slot", "len_usize > crc_start_idx", "len_usize > buf.len()"),
     Edit("the check of a slot is not compared", PAGED, "fn validate_slot", "!= crc", "!= crc && false"),
     Edit("the slots of a footer trade places", PAGED, "impl Write for Checksum", "self.len1.write(buf);\n        self.crc1.write(buf);\n        self.len2.write(buf);\n        self.crc2.write(buf);", "self.len2.write(buf);\n        self.crc2.write(buf);\n        self.len1.write(buf);\n        self.crc1.write(buf);"),
-    Edit("the two slots have each other's place at a truncation", PAGED, "const fn offset(self)", "Self::First => 0,\n            Self::Second => CHECKSUM_SLOT_SIZE", "Self::First => CHECKSUM_SLOT_SIZE,\n            Self::Second => 0", needs="truncate"),
+    Edit("the two slots have each other's place at a truncation", PAGED, "const fn offset(self)", "Self::First => 0,\n            Self::Second => CHECKSUM_SLOT_SIZE", "Self::First => CHECKSUM_SLOT_SIZE,\n            Self::Second => 0"),
     Edit("a page read begins a byte late", PAGED, "fn physical_page(", "Ok((physical_page_start, len))", "Ok((physical_page_start + 1, len))"),
     # Mark.
     Edit("a sync that writes while Dirty does not settle", MOD, "Earlier mutations need", "blob.sync().await?;", ""),
     Edit("a write leaves the mark Clean", MOD, "if !options.contains", "*self = Self::Dirty;", ""),
-    Edit("a resize leaves the mark Clean", MOD, "async fn resize", "*self = Self::Dirty;", "", needs="truncate"),
+    Edit("a resize leaves the mark Clean", MOD, "async fn resize", "*self = Self::Dirty;", ""),
     Edit("a settle leaves the mark Dirty", MOD, "async fn sync", "*self = Self::Clean;", "",
          "a settle more than needed shows no other bytes, and the sync has made the flushed slot the durable one"),
     Edit("a sync settles also when Clean", MOD, "async fn sync", "matches!(self, Self::Clean)", "false",
@@ -91,31 +89,31 @@ EDITS = [
     Edit("an opening forgets the slot of a Partial page", WRITER, "pub async fn open(", "Some((partial_page, crc_record)) => (pages - 1, Some(crc_record)", "Some((partial_page, crc_record)) => (pages - 1, None"),
     Edit("an opening's durable slot is absent", WRITER, "pub async fn open(", "durable_page_state: partial_page_state,", "durable_page_state: None,"),
     # Truncation.
-    Edit("a truncation to the size itself cuts", WRITER, "pub async fn truncate", "size < self.size()", "size <= self.size()", needs="truncate"),
-    Edit("a truncation does not sync first", WRITER, "async fn shrink(", "self = self.sync().await?;", "", needs="truncate"),
-    Edit("a truncation does not end with a sync", WRITER, "pub async fn truncate", "self.sync().await", "Ok(self)", needs="truncate"),
-    Edit("a truncation never resizes", WRITER, "async fn shrink(", "new_physical_size != current_physical_size", "false", needs="truncate"),
+    Edit("a truncation to the size itself cuts", WRITER, "pub async fn truncate", "size < self.size()", "size <= self.size()"),
+    Edit("a truncation does not sync first", WRITER, "async fn shrink(", "self = self.sync().await?;", ""),
+    Edit("a truncation does not end with a sync", WRITER, "pub async fn truncate", "self.sync().await", "Ok(self)"),
+    Edit("a truncation never resizes", WRITER, "async fn shrink(", "new_physical_size != current_physical_size", "false"),
     Edit("a truncation resizes always", WRITER, "async fn shrink(", "new_physical_size != current_physical_size", "true",
          "a resize to the length that the blob has changes no byte, and what follows settles either way"),
-    Edit("a truncation into a page keeps a page more", WRITER, "async fn shrink(", "u64::from(partial_bytes > 0)", "1", needs="truncate"),
-    Edit("a truncation takes a page that covers too little", WRITER, "async fn shrink_to_partial", "(page_data.len() as u64) < partial_bytes", "false", needs="truncate"),
-    Edit("a truncation refuses a page that covers just enough", WRITER, "async fn shrink_to_partial", "(page_data.len() as u64) < partial_bytes", "(page_data.len() as u64) <= partial_bytes", needs="truncate"),
-    Edit("a truncation to a boundary leaves the tip", WRITER, "requires no CRC-slot rewrite", "self.buffer.replace(tail_offset, &[]);", "", needs="truncate"),
-    Edit("a truncation to a boundary leaves the flushed slot", WRITER, "requires no CRC-slot rewrite", "self.partial_page_state = None;", "", needs="truncate"),
+    Edit("a truncation into a page keeps a page more", WRITER, "async fn shrink(", "u64::from(partial_bytes > 0)", "1"),
+    Edit("a truncation takes a page that covers too little", WRITER, "async fn shrink_to_partial", "(page_data.len() as u64) < partial_bytes", "false"),
+    Edit("a truncation refuses a page that covers just enough", WRITER, "async fn shrink_to_partial", "(page_data.len() as u64) < partial_bytes", "(page_data.len() as u64) <= partial_bytes"),
+    Edit("a truncation to a boundary leaves the tip", WRITER, "requires no CRC-slot rewrite", "self.buffer.replace(tail_offset, &[]);", ""),
+    Edit("a truncation to a boundary leaves the flushed slot", WRITER, "requires no CRC-slot rewrite", "self.partial_page_state = None;", ""),
     Edit("a truncation to a boundary leaves the durable slot", WRITER, "requires no CRC-slot rewrite", "self.durable_page_state = None;", "",
          "the sync that ends the truncation makes the flushed slot the durable one"),
-    Edit("a truncation leaves the flushed slot", WRITER, "Both active and durable state", "self.partial_page_state = Some(final_record);", "", needs="truncate"),
+    Edit("a truncation leaves the flushed slot", WRITER, "Both active and durable state", "self.partial_page_state = Some(final_record);", ""),
     Edit("a truncation leaves the durable slot", WRITER, "Both active and durable state", "self.durable_page_state = Some(final_record);", "",
          "the sync that ends the truncation makes the flushed slot the durable one"),
-    Edit("a truncation leaves the old slot standing", WRITER, "Clear the old slot", "Checksum::slot_bytes(0, 0).to_vec()", "Vec::<u8>::new()", needs="truncate"),
-    Edit("a truncation zeroes only the length of the old slot", WRITER, "Clear the old slot", "Checksum::slot_bytes(0, 0).to_vec()", "Checksum::slot_len_bytes(0).to_vec()", needs="truncate"),
-    Edit("a truncation writes the new slot at once", WRITER, "Stage the new slot", "Checksum::slot_bytes(0, new_crc)", "Checksum::slot_bytes(new_len, new_crc)", needs="truncate"),
-    Edit("a truncation's new slot takes the place of the old one", WRITER, "let old_slot = old_checksum.slot;", "old_slot.other()", "old_slot", needs="truncate"),
-    Edit("a truncation's first write is not settled", WRITER, "let staged_slot", "WriteOptions::SYNC | ", "", needs="truncate"),
-    Edit("a truncation's second write is not settled", WRITER, "let published_len", "WriteOptions::SYNC | ", "", needs="truncate"),
+    Edit("a truncation leaves the old slot standing", WRITER, "Clear the old slot", "Checksum::slot_bytes(0, 0).to_vec()", "Vec::<u8>::new()"),
+    Edit("a truncation zeroes only the length of the old slot", WRITER, "Clear the old slot", "Checksum::slot_bytes(0, 0).to_vec()", "Checksum::slot_len_bytes(0).to_vec()"),
+    Edit("a truncation writes the new slot at once", WRITER, "Stage the new slot", "Checksum::slot_bytes(0, new_crc)", "Checksum::slot_bytes(new_len, new_crc)"),
+    Edit("a truncation's new slot takes the place of the old one", WRITER, "let old_slot = old_checksum.slot;", "old_slot.other()", "old_slot"),
+    Edit("a truncation's first write is not settled", WRITER, "let staged_slot", "WriteOptions::SYNC | ", ""),
+    Edit("a truncation's second write is not settled", WRITER, "let published_len", "WriteOptions::SYNC | ", ""),
     Edit("a truncation's third write is not settled", WRITER, "let old_slot_offset", "WriteOptions::SYNC | ", "",
          "the sync that ends the truncation settles it, and nothing can fail between the two"),
-    Edit("a truncation's check is that of the whole page", WRITER, "async fn shrink_to_partial", "Crc32::checksum(new_data)", "Crc32::checksum(page_data.as_ref())", needs="truncate"),
+    Edit("a truncation's check is that of the whole page", WRITER, "async fn shrink_to_partial", "Crc32::checksum(new_data)", "Crc32::checksum(page_data.as_ref())"),
     # The stand-in blob: that its rules and those of the port's kinds are held against each other.
     Edit("blob: a write may not end at the ceiling", BLOB, "fn write(&mut self", "> u128::from(self.ceiling)", ">= u128::from(self.ceiling)"),
     Edit("blob: the count is one less", BLOB, "fn write(&mut self", "(cut - self.written)", "cut.saturating_sub(1).saturating_sub(self.written)"),
@@ -124,7 +122,7 @@ EDITS = [
     Edit("blob: a settle settles nothing", BLOB, "fn settle(&mut self", "self.settled.clone_from(&self.working);", ""),
     Edit("blob: a settle works without power", BLOB, "fn settle(&mut self", "!self.power", "false"),
     Edit("blob: a resize works without power", BLOB, "fn resize(&mut self", "|| !self.power", ""),
-    Edit("blob: a resize is settled at once", BLOB, "fn resize(&mut self", "self.through()", "true", needs="truncate"),
+    Edit("blob: a resize is settled at once", BLOB, "fn resize(&mut self", "self.through()", "true"),
     Edit("blob: a read works without power", BLOB, "fn read(&self", "!self.power", "false"),
     Edit("blob: a read looks at the power before the length", BLOB, "fn read(&self", "if end >", "if self.power && end >"),
     Edit("blob: a restart takes the other length", BLOB, "fn restart(&mut self", "if bit(0)", "if !bit(0)"),

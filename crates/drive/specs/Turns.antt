@@ -2,8 +2,7 @@
 use Rattle.std.specs.Prelude.{Option, Some, None}
 use Rattle.paged.specs.declared.refusal.Refusal.{Refusal}
 use Rattle.paged.specs.declared.refusal.Refusal.TheVariants.{Input, State}
-use Rattle.writer.specs.declared.writer.Writer.{Writer}
-use Rattle.writer.specs.declared.writer.Recovering.{Recovering}
+use Rattle.drive.specs.declared.any_writer.AnyWriter.{AnyWriter}
 use Rattle.drive.specs.declared.answer.Answer.{Answer}
 use Rattle.drive.specs.declared.answer.Answer.TheVariants.{Refused, Stopped}
 
@@ -13,11 +12,11 @@ refusal_answer (Input w why) = Refused why
 refusal_answer (State why) = Stopped why
 
 -- a refusal from the input gives the writer back, one from the state ends it
-abbrev pub writer_after : Refusal (Writer Recovering) → Option (Writer Recovering)
+abbrev pub writer_after : Refusal AnyWriter → Option AnyWriter
 writer_after (Input w why) = Some w
 writer_after (State why) = None
 
 -- an opening that is refused from the input leaves the writer that there is
-abbrev pub writer_after_opening : Refusal (Unit {0}) → Option (Writer Recovering) → Option (Writer Recovering)
+abbrev pub writer_after_opening : Refusal (Unit {0}) → Option AnyWriter → Option AnyWriter
 writer_after_opening (Input u why) w = w
 writer_after_opening (State why) w = None

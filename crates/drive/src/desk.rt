@@ -5,6 +5,7 @@ ghost use Rattle.drive.specs.Rooms.{tip_room};
 ghost use Rattle.drive.specs.Turns.{refusal_answer, writer_after, writer_after_opening};
 
 use crate::answer::Answer;
+use crate::any_writer::{AnyWriter, append, of_any, sync, truncate};
 use crate::command::{Call, Opening};
 use crate::problem::Problem;
 use blob::Blob;
@@ -17,7 +18,7 @@ use writer::{Recovery, tip_asked};
 #[derive(Drop)]
 pub struct Desk {
     heap: Global,
-    writer: Option<Recovery>,
+    writer: Option<AnyWriter>,
     tip: Vec<u8>,
     page: Vec<u8>,
 }
@@ -66,8 +67,8 @@ impl Desk {
             Call::Open(opening) => self.open(blob, check, opening),
             Call::Append(bytes) => Ok(self.append(blob, check, bytes.as_slice())),
             Call::Sync => Ok(self.sync(blob, check)),
-            Call::Truncate(_) => Err(Problem::NoTruncate),
-            Call::Handover => Err(Problem::NoHandover),
+            Call::Truncate(size) => Ok(self.truncate(blob, check, *size)),
+            Call::Handover => Ok(self.hand_over()),
             Call::Page { page_size, page } => read(self.heap, blob, check, *page_size, *page),
             Call::Restart => {
                 blob.restart();
@@ -105,7 +106,7 @@ impl Desk {
     // Goes on with a new writer and its buffers.
     fn seat(&mut self, w: Recovery, tip: Vec<u8>, page: Vec<u8>) -> Answer {
         let size = w.size();
-        self.writer = Some(w);
+        self.writer = Some(AnyWriter::Recovering(w));
         self.tip = tip;
         self.page = page;
         Answer::Size(size)
@@ -125,27 +126,66 @@ impl Desk {
     fn append<B: Blob, C: Check>(&mut self, blob: &mut B, check: &C, bytes: &[u8]) -> Answer
         ensures { self.old.writer ≡ None → result ≡ NoWriter }
     {
-        self.by_writer(|w, tip, page| {
-            let (w, offset) = w.append(blob, check, tip, page, bytes)?;
-            let size = w.size();
-            Ok((w, Answer::Appended { offset, size }))
+        self.by_writer(|w, tip, page| match w {
+            AnyWriter::Recovering(w) => of_any(
+                append(w, blob, check, tip, page, bytes),
+                AnyWriter::Recovering,
+            ),
+            AnyWriter::Appending(w) => of_any(
+                append(w, blob, check, tip, page, bytes),
+                AnyWriter::Appending,
+            ),
         })
     }
 
     fn sync<B: Blob, C: Check>(&mut self, blob: &mut B, check: &C) -> Answer
         ensures { self.old.writer ≡ None → result ≡ NoWriter }
     {
-        self.by_writer(|w, tip, page| {
-            let w = w.sync(blob, check, tip, page)?;
-            let size = w.size();
-            Ok((w, Answer::Size(size)))
+        self.by_writer(|w, tip, page| match w {
+            AnyWriter::Recovering(w) => of_any(
+                sync(w, blob, check, tip, page),
+                AnyWriter::Recovering,
+            ),
+            AnyWriter::Appending(w) => of_any(
+                sync(w, blob, check, tip, page),
+                AnyWriter::Appending,
+            ),
+        })
+    }
+
+    fn truncate<B: Blob, C: Check>(&mut self, blob: &mut B, check: &C, size: u64) -> Answer
+        ensures { self.old.writer ≡ None → result ≡ NoWriter }
+    {
+        self.by_writer(|w, tip, page| match w {
+            AnyWriter::Recovering(w) => of_any(
+                truncate(w, blob, check, tip, page, size),
+                AnyWriter::Recovering,
+            ),
+            w => Ok((w, Answer::NoWriter)),
+        })
+    }
+
+    fn hand_over(&mut self) -> Answer
+        ensures { self.old.writer ≡ None → result ≡ NoWriter }
+    {
+        self.by_writer(|w, _, _| match w {
+            AnyWriter::Recovering(w) => {
+                let w = w.hand_over();
+                let size = w.size();
+                Ok((AnyWriter::Appending(w), Answer::Size(size)))
+            }
+            w => Ok((w, Answer::NoWriter)),
         })
     }
 
     // Hands the writer and its buffers to a call, and keeps the writer that the call gives back. Without a writer nothing is called.
     fn by_writer<F>(&mut self, call: F) -> Answer
     where
-        F: FnOnce(Recovery, &mut [u8], &mut [u8]) -> Result<(Recovery, Answer), Refusal<Recovery>>,
+        F: FnOnce(
+            AnyWriter,
+            &mut [u8],
+            &mut [u8],
+        ) -> Result<(AnyWriter, Answer), Refusal<AnyWriter>>,
         requires { F.IsAlwaysCallable call }
         ensures { self.old.writer ≡ None → result ≡ NoWriter }
     {
@@ -162,7 +202,7 @@ impl Desk {
     }
 
     // A call on the writer was refused. From the input, that gives the writer back; by the state, that ends it.
-    fn refused(&mut self, refusal: Refusal<Recovery>) -> Answer
+    fn refused(&mut self, refusal: Refusal<AnyWriter>) -> Answer
         ensures writer { self.new.writer ≡ writer_after refusal }
         ensures answer { result ≡ refusal_answer refusal }
     {

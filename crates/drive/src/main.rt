@@ -3,6 +3,7 @@
 
 mod answer;
 mod any_check;
+mod any_writer;
 mod command;
 mod desk;
 mod problem;

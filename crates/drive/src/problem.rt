@@ -26,11 +26,6 @@ pub enum Problem {
     BlobNotNew,
     #[error("{}", not_made(*.0))]
     NotMade(#[from] MakeError),
-    // The call isn't carried out here yet.
-    #[error("truncate is not there yet")]
-    NoTruncate,
-    #[error("handover is not there yet")]
-    NoHandover,
     #[error("there is no memory left")]
     NoMemory(#[from(alloc)] AllocError),
 }
