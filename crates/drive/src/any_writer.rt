@@ -1,4 +1,4 @@
-// A writer of either phase, and the calls that both have.
+// A writer of either phase, and the calls on it that a script makes.
 use crate::answer::Answer;
 use blob::Blob;
 use checks::Check;
@@ -27,6 +27,7 @@ where
     }
 }
 
+// This and the next two take what the writer's own calls take. They are generic where a closure, which has one type, can't be.
 pub(crate) fn append<Phase: Drop, B: Blob, C: Check>(
     w: Writer<Phase>,
     blob: &mut B,
@@ -52,7 +53,7 @@ pub(crate) fn sync<Phase: Drop, B: Blob, C: Check>(
     Ok((w, Answer::Size(size)))
 }
 
-// Only the recovering phase has it.
+// Only the recovering phase has this one.
 pub(crate) fn truncate<B: Blob, C: Check>(
     w: Recovery,
     blob: &mut B,
