@@ -8,7 +8,7 @@ use Rattle.checks.specs.Crc.{crc32c}
 use Rattle.plan.specs.Open.{open_plan}
 use Rattle.writer.specs.Calls.{Done}
 use Rattle.lifts.specs.declared.lift.Lift.{Lift}
-use Rattle.lifts.specs.declared.session.Session.{Session}
+use Rattle.isolator.specs.Sessions.{Session}
 use Rattle.lifts.specs.declared.store.Pages.{Pages}
 use Rattle.isolator.specs.declared.trial.Count.{Count}
 use Rattle.isolator.specs.declared.trial.Outcome.{Outcome}
@@ -19,7 +19,7 @@ use Rattle.isolator.specs.Trials.{Judged, worse_of, counted_in}
 use Rattle.isolator.specs.Turns.{Shows, WentOn, CameBack, Turned, Turns, more}
 
 -- reading back leaves the blob as the opening left it
-pub shows : (v m w : BlobValue) (s : Session) (ls : List Lift) (pages : Pages) → Done (open_plan crc32c 96 288 v.shown) 96 v s.tip.items s.log m
+pub shows : (v m w : BlobValue) (s : Session) (ls : List Lift) (pages : Pages) → Done (open_plan crc32c 96 288 v.shown) 96 v s.tip s.log m
     → Holds 96 m.shown (records ls) pages → w ≡ m → Shows v ls w
 shows v m w s ls pages d h e = subst (λ u. Shows v ls u) (sym e) (record { opened = s; opening = d; pages = pages; held = h })
 

@@ -9,19 +9,19 @@ use Rattle.kinds.specs.Cuts.{Planned}
 use Rattle.plan.specs.Open.{open_plan}
 use Rattle.writer.specs.Calls.{Done}
 use Rattle.lifts.specs.declared.lift.Lift.{Lift}
-use Rattle.lifts.specs.declared.session.Session.{Session}
 use Rattle.lifts.specs.declared.store.Pages.{Pages}
 use Rattle.isolator.specs.declared.trial.Count.{Count}
 use Rattle.isolator.specs.declared.trial.Outcome.{Outcome}
 use Rattle.isolator.specs.declared.trial.Progress.{Progress}
 use Rattle.lifts.specs.Pages.{Holds}
 use Rattle.lifts.specs.Records.{records}
+use Rattle.isolator.specs.Sessions.{Session}
 use Rattle.isolator.specs.Trials.{Recorded, Judged, worse_of, no_cuts, counted_in}
 
 -- the log of the blob v was opened, which led to the blob w, and the pages of w cover the records of these lifts
 pub record Shows (v : BlobValue) (lifts : List Lift) (w : BlobValue) : Type 0 where
   pub opened : Session
-  pub opening : Done (open_plan crc32c 96 288 v.shown) 96 v opened.tip.items opened.log w
+  pub opening : Done (open_plan crc32c 96 288 v.shown) 96 v opened.tip opened.log w
   pub pages : Pages
   pub held : Holds 96 w.shown (records lifts) pages
 

@@ -5,12 +5,11 @@ ghost use Rattle.kinds.specs.Cuts.{Planned};
 ghost use Rattle.isolator.specs.Turns.{Shows, WentOn, CameBack, Turned, TurnedEverywhere};
 
 use crate::error::TrialError;
-use crate::session::PAGE_SIZE;
 use crate::trial::{Count, Outcome, Progress};
 use crate::{session, trial};
 use blob::Blob;
 use kinds::SettleLater;
-use lifts::{Lift, LogError, read_back};
+use lifts::{Lift, LogError};
 use std::alloc::Global;
 
 // How many bytes the log may grow to.
@@ -42,8 +41,8 @@ fn steady_blob(heap: Global, bytes: &[u8]) -> Result<SettleLater, LogError>
 fn reopen<B: Blob>(heap: Global, blob: &mut B) -> Result<Vec<Lift>, LogError>
     ensures { IfOk result (λ ls. Shows (B.meaning blob.old) ls.items (B.meaning blob.new)) }
 {
-    let _ = session::open(heap, blob)?;
-    Ok(read_back(heap, blob, PAGE_SIZE)?.lifts)
+    let _ = session::open(blob)?;
+    Ok(session::read_back(heap, blob)?.lifts)
 }
 
 // Records lifts behind those that stand in a log of these bytes, and judges it as the log of the whole shift.
@@ -51,7 +50,7 @@ fn go_on(heap: Global, bytes: &[u8], rest: &[Lift], shift: &[Lift]) -> Result<Ou
     ensures { IfOk result (λ o. WentOn bytes.now rest.now shift.now o) }
 {
     let mut blob = steady_blob(heap, bytes)?;
-    let _ = trial::record(heap, &mut blob, rest)?;
+    let _ = trial::record(&mut blob, rest)?;
     let lifts = reopen(heap, &mut blob)?;
     Ok(trial::judge(shift, &lifts, Progress::whole(shift)))
 }
@@ -83,7 +82,7 @@ fn turn_at(
     ensures { IfOk result (λ o. Turned cut pattern.now shift.now o) }
 {
     let mut blob = empty_blob(heap, Some(cut), pattern)?;
-    let progress = trial::record(heap, &mut blob, shift)?;
+    let progress = trial::record(&mut blob, shift)?;
     if progress.synced == shift.len() {
         return Ok(None);
     }

@@ -4,7 +4,7 @@ use Rattle.std.proofs.Common.{arith, ltb-true}
 use Rattle.std.proofs.lemmas.Bool.{and_parts}
 use Rattle.blob.specs.Value.{BlobValue, Sound}
 use Rattle.kinds.specs.declared.settle_later.SettleLater.{SettleLater}
-use Rattle.kinds.specs.Held.{held, room}
+use Rattle.kinds.specs.Held.{held, room, held_fits, held_bytes}
 
 -- both strings have the same byte at the place k
 abbrev pub same_at : List ℕ → List ℕ → ℕ → Bool
@@ -26,8 +26,8 @@ later b = later_value (held b.working) (held b.settled) (room b.working) b.power
 
 pub later_sound : (b : SettleLater) → Sound (later b)
 later_sound b = record {
-  bytes = b.working.bytes;
-  fits = b.working.within;
+  bytes = held_bytes b.working;
+  fits = held_fits b.working;
   ceiling_fits = b.working.small;
   firm_shown = λ k e. ltb-true _ _ (and_parts _ _ e).0;
   firm_below = λ k e.

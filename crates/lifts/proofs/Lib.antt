@@ -1,2 +1,3 @@
 mod Lifts
 mod Joining
+mod Sessions

@@ -15,3 +15,6 @@ pub use report::Summary;
 pub use session::Session;
 pub use store::{Pages, Stored, read_back};
 pub use time::HoistingTime;
+
+#[cfg(test)]
+mod tests;

@@ -1,16 +1,25 @@
 // What is done with an area: once it is made, none of it can fail.
-ghost use Rattle.std.specs.Prelude.{◌≡◌, ◌+◌, ◌≤◌, length};
+ghost use Rattle.std.specs.Prelude.{◌≡◌, ◌+◌, ◌^◌, ◌≤◌, [], length, vec_capacity, IfOk};
 ghost use Rattle.blob.specs.Calls.{overwritten, resized, stretch};
 ghost use Rattle.kinds.specs.Held.{held, room};
 ghost use Rattle.kinds.specs.Making.{Made};
 
 use super::Area;
 use crate::MakeError;
-use std::alloc::Global;
+use std::alloc::{AllocError, Global};
 
 const HIGHEST_CEILING: u64 = 1 << 40;
 
 impl Area {
+    // An empty string in memory of `ceiling` bytes, no fewer and no more.
+    fn empty(heap: Global, ceiling: u64) -> Result<Area, AllocError>
+        requires { ceiling ≤ 2 ^ 40 }
+        ensures { IfOk result (λ a. (held a ≡ []) × (room a ≡ ceiling) × (vec_capacity a.string ≡ ceiling)) }
+    {
+        let string = Vec::with_capacity(heap, ceiling as usize)?;
+        Ok(Area { string, ceiling })
+    }
+
     // An area with room for `ceiling` bytes that holds `bytes`.
     pub(crate) fn with_bytes(heap: Global, ceiling: u64, bytes: &[u8]) -> Result<Area, MakeError>
         ensures { Made ceiling bytes.now (λ a. (held a ≡ bytes.now) × (room a ≡ ceiling)) result }
@@ -21,9 +30,9 @@ impl Area {
         if bytes.len() as u64 > ceiling {
             return Err(MakeError::TooLong);
         }
-        let mut string = Vec::with_capacity(heap, ceiling as usize)?;
-        string.extend_from_slice(bytes).unwrap();
-        Ok(Area { string, ceiling })
+        let mut area = Area::empty(heap, ceiling)?;
+        area.write(0, bytes);
+        Ok(area)
     }
 
     // The length of the string.
@@ -64,8 +73,12 @@ impl Area {
         ensures room { room self.new ≡ room self.old }
     {
         let from = at as usize;
-        let over = bytes.len().min(self.string.len() - from);
-        self.string[from..from + over].copy_from_slice(&bytes[..over]);
+        let over = self.string.len() - from;
+        if bytes.len() <= over {
+            self.string[from..from + bytes.len()].copy_from_slice(bytes);
+            return;
+        }
+        self.string[from..].copy_from_slice(&bytes[..over]);
         self.string.extend_from_slice(&bytes[over..]).unwrap();
     }
 
